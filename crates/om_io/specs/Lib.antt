@@ -1,0 +1,12 @@
+pub mod Causes
+pub mod Outside
+pub mod Digits
+pub mod Failing
+pub mod Files
+pub mod SavedFiles
+pub mod StoreCounts
+pub mod MemSource
+pub mod MemSink
+pub mod MemStore
+pub mod Adapters
+pub mod Rows
