@@ -1,0 +1,12 @@
+pub mod Appending
+pub mod Numbers
+pub mod Least
+pub mod FirstFault
+pub mod Picked
+pub mod Each
+pub mod Joined
+pub mod Found
+pub mod Heads
+pub mod Faults
+pub mod ExtentLemmas
+pub mod Slices

@@ -1,0 +1,12 @@
+pub mod Bytes
+pub mod Headers
+pub mod Rows
+pub mod Places
+pub mod Rules
+pub mod Sections
+pub mod Extents
+pub mod HeaderFields
+pub mod Answers
+pub mod RowOne
+pub mod HeaderRows
+pub mod ExtentRows

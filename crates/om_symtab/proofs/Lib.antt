@@ -1,0 +1,3 @@
+pub mod ZeroEnd
+pub mod InOrder
+pub mod Fronts

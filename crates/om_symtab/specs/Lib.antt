@@ -1,0 +1,4 @@
+pub mod Classes
+pub mod Symbols
+pub mod Zeros
+pub mod Rows
