@@ -1,0 +1,13 @@
+pub mod ThinText
+pub mod ThinFile
+pub mod Thin
+pub mod Rows
+pub mod Words
+pub mod Aims
+pub mod Rules
+pub mod Spots
+pub mod Passes
+pub mod Marks
+pub mod Claims
+pub mod File
+pub mod ObjectRows
