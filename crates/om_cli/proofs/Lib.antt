@@ -1,0 +1,11 @@
+pub mod ImageFields
+pub mod KeptImage
+pub mod TrueMaps
+pub mod Addresses
+pub mod Placed
+pub mod Lockstep
+pub mod Faithful
+pub mod Words
+pub mod Adding
+pub mod Refusing
+pub mod Stopped

@@ -1,0 +1,14 @@
+pub mod Layout
+pub mod Image
+pub mod ImageFile
+pub mod TrueMap
+pub mod ImageRows
+pub mod Areas
+pub mod Symbolic
+pub mod Numeric
+pub mod Runs
+pub mod Rows
+pub mod Sentence
+pub mod Telling
+pub mod Causes
+pub mod Linking

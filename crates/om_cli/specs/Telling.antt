@@ -1,0 +1,32 @@
+-- What is put on the error stream: a line, whole or in part.
+use Rattle.std.specs.Prelude.{◌≡◌, ◌++◌, ◌⊎◌, ℕ, List, Option, Some, Result, codes, decimal}
+use Rattle.om_io.specs.Causes.{Rose, HasCause}
+use Rattle.om_io.specs.Outside.{Appends, IsFrontOf}
+
+-- what puts of a line, piece by piece, do to what was written and to the count of faults
+pub record Adds {T E : Type 0} (line : List ℕ) (written_before : Option (List ℕ)) (faults_before : ℕ)
+    (written_after : Option (List ℕ)) (faults_after : ℕ) (result : Result T E) : Type 0 where
+  pub appends : (old : List ℕ) → written_before ≡ Some old → Appends old written_after line result
+  pub cause : HasCause faults_before faults_after result
+
+-- the whole line was put, and nothing failed
+pub record HasLine (line : List ℕ) (written_before : Option (List ℕ)) (faults_before : ℕ)
+    (written_after : Option (List ℕ)) (faults_after : ℕ) : Type 0 where
+  pub appended : (old : List ℕ) → written_before ≡ Some old → written_after ≡ Some (old ++ line)
+  pub no_fault : faults_after ≡ faults_before
+
+-- the put failed, after a front of the line
+pub record HasFront (line : List ℕ) (written_before : Option (List ℕ)) (faults_before : ℕ)
+    (written_after : Option (List ℕ)) (faults_after : ℕ) : Type 0 where
+  pub appended : (old : List ℕ) → written_before ≡ Some old → (front : List ℕ) × IsFrontOf front line × (written_after ≡ Some (old ++ front))
+  pub fault : Rose faults_before faults_after
+
+-- the status stands with its whole line, or is 7 because a put failed
+abbrev pub IsTold : ℕ → List ℕ → ℕ → Option (List ℕ) → ℕ → Option (List ℕ) → ℕ → Type 0
+IsTold status line result written_before faults_before written_after faults_after =
+    ((result ≡ status) × HasLine line written_before faults_before written_after faults_after)
+    ⊎ ((result ≡ 7) × HasFront line written_before faults_before written_after faults_after)
+
+-- the line of words that are no sentence
+abbrev pub usage_line : ℕ → List ℕ
+usage_line place = codes "usage " ++ decimal place ++ codes "\n"

@@ -1,0 +1,40 @@
+#![tactic(auto)]
+
+// The command.
+
+mod arguments;
+mod image;
+mod linking;
+mod report;
+mod sentence;
+mod stopping;
+#[cfg(test)]
+mod tests;
+mod top;
+
+use crate::arguments::words_of;
+use crate::report::report;
+use crate::stopping::Stop;
+use om_io::{DirStore, StdSink, StdSource};
+use std::alloc::AllocError;
+use std::process::ExitCode;
+pub use top::om;
+
+fn main(rt: HostRuntime) -> ExitCode {
+    let mut err = StdSink::new(rt.stderr());
+    let words = match words_of(&rt) {
+        Ok(words) => words,
+        Err(AllocError) => return ExitCode::from(report(&mut err, "", Stop::NoMemory)),
+    };
+    let mut store = DirStore::new(rt);
+    let mut input = StdSource::new(rt.stdin());
+    let mut out = StdSink::new(rt.stdout());
+    ExitCode::from(om(
+        rt.alloc(),
+        &words,
+        &mut store,
+        &mut input,
+        &mut out,
+        &mut err,
+    ))
+}

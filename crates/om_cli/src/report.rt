@@ -1,0 +1,114 @@
+// Lines on the error stream, and statuses.
+ghost use Rattle.std.specs.Prelude.{◌≡◌, ◌++◌, codes, decimal};
+ghost use Rattle.om_cli.specs.Causes.{line_of, refusal_line, status_of};
+ghost use Rattle.om_cli.specs.Telling.{Adds, IsTold, usage_line};
+
+use crate::stopping::{Refusal, Stop, status_for};
+use om_io::{Failed, Sink, put_dec};
+
+fn put_text<E: Sink>(err: &mut E, text: &[u8]) -> Result<(), Failed>
+    ensures { Adds text.now (E.written err.old) (E.faults err.old) (E.written err.new) (E.faults err.new) result }
+{
+    err.put(text)
+}
+
+fn put_word<E: Sink>(err: &mut E, word: &str) -> Result<(), Failed>
+    ensures { Adds word.now (E.written err.old) (E.faults err.old) (E.written err.new) (E.faults err.new) result }
+{
+    err.put(word.as_bytes())
+}
+
+fn put_number<E: Sink>(err: &mut E, n: u64) -> Result<(), Failed>
+    ensures { Adds (decimal n) (E.written err.old) (E.faults err.old) (E.written err.new) (E.faults err.new) result }
+{
+    put_dec(err, u128::from(n))
+}
+
+// A line that ends in the file's name.
+fn put_named<E: Sink>(err: &mut E, what: &[u8], file: &str) -> Result<(), Failed>
+    ensures { Adds (what.now ++ file.now ++ codes "\n") (E.written err.old) (E.faults err.old) (E.written err.new) (E.faults err.new) result }
+{
+    put_text(err, what)?;
+    put_word(err, file)?;
+    put_text(err, b"\n")?;
+    Ok(())
+}
+
+// The front of the line of a broken rule: the file and the rule.
+fn put_rule<E: Sink>(err: &mut E, file: &str, rule: u8) -> Result<(), Failed>
+    ensures { Adds (codes "object " ++ file.now ++ codes " rule " ++ decimal rule)
+        (E.written err.old) (E.faults err.old) (E.written err.new) (E.faults err.new) result }
+{
+    put_text(err, b"object ")?;
+    put_word(err, file)?;
+    put_text(err, b" rule ")?;
+    put_number(err, u64::from(rule))?;
+    Ok(())
+}
+
+// The line of a broken rule.
+fn put_broken<E: Sink>(err: &mut E, file: &str, rule: u8, at: u64) -> Result<(), Failed>
+    ensures { Adds (refusal_line (Refusal.Rule rule at) file.now)
+        (E.written err.old) (E.faults err.old) (E.written err.new) (E.faults err.new) result }
+{
+    put_rule(err, file, rule)?;
+    put_text(err, b" at ")?;
+    put_number(err, at)?;
+    put_text(err, b"\n")?;
+    Ok(())
+}
+
+fn put_refusal<E: Sink>(err: &mut E, file: &str, refusal: Refusal) -> Result<(), Failed>
+    ensures { Adds (refusal_line refusal file.now)
+        (E.written err.old) (E.faults err.old) (E.written err.new) (E.faults err.new) result }
+{
+    match refusal {
+        Refusal::Missing => put_named(err, b"missing ", file),
+        Refusal::TooLong => put_named(err, b"limit bytes ", file),
+        Refusal::Rule { rule, at } => put_broken(err, file, rule, at),
+    }
+}
+
+fn put_stop<E: Sink>(err: &mut E, file: &str, stop: Stop) -> Result<(), Failed>
+    ensures { Adds (line_of stop file.now)
+        (E.written err.old) (E.faults err.old) (E.written err.new) (E.faults err.new) result }
+{
+    match stop {
+        Stop::Refused(refusal) => put_refusal(err, file, refusal),
+        Stop::ReadFault => put_text(err, b"read fault\n"),
+        Stop::WriteFault => put_text(err, b"write fault\n"),
+        Stop::NoMemory => put_text(err, b"no memory\n"),
+    }
+}
+
+/// Says on the error stream why there is no image, and answers the status: 7 where the put failed.
+pub(crate) fn report<E: Sink>(err: &mut E, file: &str, stop: Stop) -> u8
+    ensures { IsTold (status_of stop) (line_of stop file.now) result
+        (E.written err.old) (E.faults err.old) (E.written err.new) (E.faults err.new) }
+{
+    match put_stop(err, file, stop) {
+        Ok(()) => status_for(stop),
+        Err(Failed) => 7,
+    }
+}
+
+fn put_usage<E: Sink>(err: &mut E, place: u64) -> Result<(), Failed>
+    ensures { Adds (usage_line place) (E.written err.old) (E.faults err.old) (E.written err.new) (E.faults err.new) result }
+{
+    put_text(err, b"usage ")?;
+    put_number(err, place)?;
+    put_text(err, b"\n")?;
+    Ok(())
+}
+
+/// Says on the error stream at which place, from 1, the words are no sentence, and answers the status:
+/// 7 where the put failed.
+pub(crate) fn report_usage<E: Sink>(err: &mut E, place: u64) -> u8
+    ensures { IsTold 2 (usage_line place) result
+        (E.written err.old) (E.faults err.old) (E.written err.new) (E.faults err.new) }
+{
+    match put_usage(err, place) {
+        Ok(()) => 2,
+        Err(Failed) => 7,
+    }
+}
