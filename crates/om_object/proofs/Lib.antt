@@ -6,3 +6,5 @@ pub mod Elsewhere
 pub mod HeadsAt
 pub mod Chains
 pub mod Placed
+pub mod Made
+pub mod FoundSpots

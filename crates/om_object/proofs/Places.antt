@@ -11,9 +11,9 @@ use Rattle.om_object.specs.declared.parts.Section.{Section}
 use Rattle.om_object.specs.declared.parts.Parts.{Parts}
 use Rattle.om_object.specs.declared.origin.Origin.{Origin}
 use Rattle.om_object.specs.declared.origin.Origins.{Origins}
-use Rattle.om_object.specs.Rules.{Spot, AtReloc, AtWord, AtSection, AtSymbol, section_at, symbol_at, breaks_at, is_unled, is_shared, is_unreadable, is_astray, entries_where, words_where, sections_where, symbols_where}
+use Rattle.om_object.specs.Rules.{Spot, AtReloc, AtWord, AtSection, AtSymbol, section_at, symbol_at, breaks_at, is_unled, is_shared, is_unreadable, is_astray, entries_where, words_where, sections_where, symbols_where, is_found}
 use Rattle.om_object.specs.Spots.{origin_at, place_of, places_of}
-use Rattle.om_object.specs.Passes.{entry_place, word_place, symbol_place, item_place, item_count, test_of, indices_of, section_places, spots_of, FitsAt, IsPlaced, is_found}
+use Rattle.om_object.specs.Passes.{entry_place, word_place, symbol_place, item_place, item_count, test_of, indices_of, section_places, spots_of, FitsAt, IsPlaced}
 
 pub entries-rise : (origin : Origin) → Rises (entry_place origin)
 entries-rise origin i j h = omega arith

@@ -69,8 +69,3 @@ pub record IsPlaced (p : Parts) (o : Origins) : Type 0 where
   pub sections : length o.sections ≡ length p.sections
   pub each : (a : ℕ) → a < length p.sections → FitsAt (section_at p a) (origin_at o a)
   pub symbols : o.symbols + 24 * length p.symbols < 2 ^ 64
-
--- some spot stands in a list
-abbrev pub is_found : List Spot → Bool
-is_found [] = false
-is_found (x ∷ xs) = true

@@ -301,21 +301,26 @@ rule_29 = (29, λ p. relocs_where p Natural)
 -- ---- the rules that parts made by hand must meet besides
 
 -- 6
+abbrev pub extent_of : Section → Extent
+extent_of s = record { number = Some s.number; addr = s.addr; size = s.size }
+
 abbrev pub section_extent : Parts → ℕ → Extent
-section_extent p a = record {
-  number = Some (section_at p a).number;
-  addr = (section_at p a).addr;
-  size = (section_at p a).size;
-}
+section_extent p a = extent_of (section_at p a)
 
 abbrev pub made_rule_6 : Parts → List Spot
 made_rule_6 p =
     picked (λ a. is_none (name_of_number (section_at p a).number) || is_misplaced (section_extent p) a) AtSection (length p.sections)
 
+abbrev pub made_front : List PartRule
+made_front =
+    (4, λ p. sections_where p (section_breaks Misfilled)) ∷ (6, made_rule_6) ∷ (8, λ p. symbols_where p (symbol_breaks p Unwritable)) ∷ []
+
+abbrev pub made_last : List PartRule
+made_last = rule_25 ∷ (26, λ p. sections_where p (section_breaks Crowded)) ∷ rule_29 ∷ []
+
+-- all rules on parts, in the order of their numbers
 abbrev pub made_rules : List PartRule
-made_rules =
-    (4, λ p. sections_where p (section_breaks Misfilled)) ∷ (6, made_rule_6) ∷ (8, λ p. symbols_where p (symbol_breaks p Unwritable))
-    ∷ (rules_9_to_23 ++ rule_25 ∷ (26, λ p. sections_where p (section_breaks Crowded)) ∷ rule_29 ∷ [])
+made_rules = made_front ++ rules_9_to_12 ++ rules_13_to_17 ++ rules_21_to_23 ++ made_last
 
 -- no rule of a list is broken
 abbrev pub AreKept : List PartRule → Parts → Type 0
@@ -326,11 +331,12 @@ AreKept (r ∷ rs) p = (r.1 p ≡ []) × AreKept rs p
 pub record IsObject (p : Parts) : Type 0 where
   pub kept : AreKept made_rules p
 
+-- some spot stands in a list
+abbrev pub is_found : List Spot → Bool
+is_found [] = false
+is_found (x ∷ xs) = true
+
 -- the least rule of a list that is broken, where the numbers rise
 abbrev pub first_broken : List PartRule → Parts → Option ℕ
 first_broken [] p = None
-first_broken (r ∷ rs) p =
-    elim (r.1 p) as (λ _. Option ℕ) [
-      | [] ↦ first_broken rs p
-      | x ∷ xs ↦ Some r.0
-    ]
+first_broken (r ∷ rs) p = if is_found (r.1 p) then Some r.0 else first_broken rs p

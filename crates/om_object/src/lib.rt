@@ -1,13 +1,17 @@
 // Alpha object files: their parts, the rules that they keep, and how they are read.
 #![tactic(auto)]
 
+mod claimed;
 mod entry;
 mod errors;
 mod faults;
 mod file_parts;
+#[cfg(test)]
+mod file_tests;
 mod instructions;
 mod kinds;
 mod lituse;
+mod making;
 mod object;
 mod origin;
 mod parts;
@@ -18,17 +22,23 @@ mod shared;
 mod symbols;
 mod tables;
 #[cfg(test)]
+mod test_files;
+#[cfg(test)]
 mod tests;
 mod text;
 mod thin;
 mod thin_file;
+#[cfg(test)]
+mod tool_files;
+#[cfg(test)]
+mod tool_tests;
 mod words;
 
 pub use entry::breaks;
 pub use errors::{MakeErr, ObjErr};
 pub use faults::{front_fault, last_fault, part_fault};
 pub use file_parts::parts_of;
-pub use object::read_parts;
+pub use object::{Object, read_object};
 pub use origin::{Origin, Origins};
 pub use parts::{Parts, Section};
 pub use passes::{

@@ -2,9 +2,9 @@
 ghost use Rattle.std.specs.Prelude.{◌≡◌, ◌<◌, ◌≤◌, ◌+◌, ◌*◌, ◌^◌, ℕ, length, Option, Some, None, IfOk, option_map, is_some};
 ghost use Rattle.om_fields.specs.Places.{least, lesser_of, picked, place_if as places_if};
 ghost use Rattle.om_object.specs.declared.rules.Pass.TheVariants.{Entry};
-ghost use Rattle.om_object.specs.Rules.{section_at, reloc_at, breaks_at, section_breaks, symbol_breaks as breaks_symbol, sections_where, symbols_where, symbol_at};
+ghost use Rattle.om_object.specs.Rules.{section_at, reloc_at, breaks_at, section_breaks, symbol_breaks as breaks_symbol, sections_where, symbols_where, symbol_at, is_found};
 ghost use Rattle.om_object.specs.Spots.{origin_at, places_of};
-ghost use Rattle.om_object.specs.Passes.{IsPlaced, indices_of, item_place as place_of_item, spots_of, is_found};
+ghost use Rattle.om_object.specs.Passes.{IsPlaced, indices_of, item_place as place_of_item, spots_of};
 
 use crate::entry::breaks;
 use crate::kinds::is_ignore;
