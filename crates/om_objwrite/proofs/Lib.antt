@@ -1,0 +1,14 @@
+pub mod Rounding
+pub mod Tables
+pub mod Steps
+pub mod Fitting
+pub mod Standing
+pub mod HeaderParts
+pub mod RelocParts
+pub mod BlockParts
+pub mod Picks
+pub mod SectionParts
+pub mod SymbolParts
+pub mod Objects
+pub mod FileParts
+pub mod Accepted

@@ -1,0 +1,7 @@
+use Rattle.std.proofs.Common.{arith}
+use Rattle.om_objwrite.proofs.Fitting.{tables_above}
+use Rattle.om_objwrite.proofs.writing.push_headers.Goals as goal
+
+pub push_heads-requires-clause-bodies : goal.push_heads-requires-clause-bodies
+push_heads-requires-clause-bodies c =
+    rw (c.as_slice-sections.ensures, c.requires.layout.bodies_at) (omega (arith, tables_above c.args.parts.now, c.requires.fits))

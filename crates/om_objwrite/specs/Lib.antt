@@ -1,0 +1,5 @@
+pub mod Written
+pub mod Lengths
+pub mod LaidOut
+pub mod RoundTrip
+pub mod Rows
