@@ -2,4 +2,5 @@ pub mod Written
 pub mod Lengths
 pub mod LaidOut
 pub mod RoundTrip
+pub mod MadeRows
 pub mod Rows

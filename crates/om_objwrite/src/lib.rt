@@ -2,6 +2,8 @@
 #![tactic(auto)]
 
 mod blocks;
+#[cfg(test)]
+mod made_tests;
 mod places;
 mod relocations;
 mod round_trip;
