@@ -11,6 +11,7 @@ mod sections;
 mod symbols;
 #[cfg(test)]
 mod tests;
+mod widths;
 mod writing;
 
 pub use round_trip::written_is_read;

@@ -4,11 +4,13 @@ ghost use Rattle.om_fields.specs.Bytes.{Grows};
 ghost use Rattle.om_objwrite.specs.Lengths.{total_length, HasCounts};
 ghost use Rattle.om_objwrite.specs.Written.{file_of, headers_part, sections_part, symbols_part, strings, tables_end, symbolic_at};
 ghost use Rattle.om_objwrite.specs.LaidOut.{IsLaidOut};
+ghost use Rattle.om_objwrite.specs.RoundTrip.{ReadsBack};
 
 use crate::places::{Layout, lay_out};
 use crate::relocations::push_tables;
 use crate::sections::{push_bodies, push_heads};
 use crate::symbols::{push_strings, push_symbolic_header, push_symbols, strings_size};
+use crate::widths::parts_fit;
 use om_fields::{push_file_header, push_optional_header, push_zeros};
 use om_io::{Bytes, NoMemory};
 use om_object::{Object, Parts};
@@ -82,11 +84,15 @@ pub fn write_parts(alloc: Global, parts: &Parts) -> Result<Bytes, NoMemory>
 /// not named here are 0.
 ///
 /// The sections, bytes, relocations, symbols and bytes of names are fewer than 2^28 in all. It takes memory once, for
-/// the file, and time linear in it. Reading the file gives the same object, which `written_is_read` says.
+/// the file, and time linear in it. The file breaks no rule of object files, and the parts that are read of it are the
+/// object's.
 #[tactic(auto, using(crate::proofs::Objects::counts_fit))]
 pub fn write_object(alloc: Global, o: &Object) -> Result<Bytes, NoMemory>
     requires { total_length o.now < 2 ^ 28 }
-    ensures { IfOk result (λ file. file ≡ file_of o.now) }
+    ensures file { IfOk result (λ file. file ≡ file_of o.now) }
+    ensures read { ReadsBack o.now }
 {
-    write_parts(alloc, o.parts())
+    let parts = o.parts();
+    parts_fit(parts);
+    write_parts(alloc, parts)
 }
