@@ -1,0 +1,4 @@
+pub mod Numerals
+pub mod Sentences
+pub mod Meaning
+pub mod Rows
