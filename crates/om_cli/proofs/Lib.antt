@@ -5,7 +5,7 @@ pub mod Addresses
 pub mod Placed
 pub mod Lockstep
 pub mod Faithful
-pub mod Words
 pub mod Adding
 pub mod Refusing
 pub mod Stopped
+pub mod Asking

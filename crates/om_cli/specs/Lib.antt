@@ -8,7 +8,9 @@ pub mod Symbolic
 pub mod Numeric
 pub mod Runs
 pub mod Rows
-pub mod Sentence
+pub mod World
 pub mod Telling
 pub mod Causes
 pub mod Linking
+pub mod LinkAnswers
+pub mod Answers

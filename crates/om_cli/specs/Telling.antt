@@ -2,6 +2,7 @@
 use Rattle.std.specs.Prelude.{◌≡◌, ◌++◌, ◌⊎◌, ℕ, List, Option, Some, Result, codes, decimal}
 use Rattle.om_io.specs.Causes.{Rose, HasCause}
 use Rattle.om_io.specs.Outside.{Appends, IsFrontOf}
+use Rattle.om_cli.specs.World.{Stream}
 
 -- what puts of a line, piece by piece, do to what was written and to the count of faults
 pub record Adds {T E : Type 0} (line : List ℕ) (written_before : Option (List ℕ)) (faults_before : ℕ)
@@ -30,3 +31,10 @@ IsTold status line result written_before faults_before written_after faults_afte
 -- the line of words that are no sentence
 abbrev pub usage_line : ℕ → List ℕ
 usage_line place = codes "usage " ++ decimal place ++ codes "\n"
+
+-- the same over the error stream
+abbrev pub IsSaid : ℕ → List ℕ → ℕ → Stream → Stream → Type 0
+IsSaid status line result old new = IsTold status line result old.told old.faults new.told new.faults
+
+abbrev pub SaysLine : List ℕ → Stream → Stream → Type 0
+SaysLine line old new = HasLine line old.told old.faults new.told new.faults

@@ -5,8 +5,8 @@
 mod arguments;
 mod image;
 mod linking;
+mod obeying;
 mod report;
-mod sentence;
 mod stopping;
 #[cfg(test)]
 mod tests;

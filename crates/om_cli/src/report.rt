@@ -112,3 +112,14 @@ pub(crate) fn report_usage<E: Sink>(err: &mut E, place: u64) -> u8
         Err(Failed) => 7,
     }
 }
+
+/// Says on the error stream that the command does not exist yet, and answers the status: 7 where the put failed.
+pub(crate) fn report_not_yet<E: Sink>(err: &mut E) -> u8
+    ensures { IsTold 2 (codes "not yet\n") result
+        (E.written err.old) (E.faults err.old) (E.written err.new) (E.faults err.new) }
+{
+    match put_text(err, b"not yet\n") {
+        Ok(()) => 2,
+        Err(Failed) => 7,
+    }
+}

@@ -73,8 +73,8 @@ told (command.Asm out file) = Asm (string_bytes out) (string_bytes file)
 told (command.Count steps out image) = Count steps (string_bytes out) (string_bytes image)
 told (command.Place counts out files) = Place (string_bytes counts) (string_bytes out) (texts files)
 
--- the answer to words: the command that they ask for, or the place where they are wrong. Want of memory says nothing
+-- the answer to words: the command that they ask for, or the place where they are wrong. Memory runs out only at a sentence
 abbrev pub IsAnswer : List (List ℕ) → Result Command WordsErr → Type 0
 IsAnswer words (Ok c) = meaning words ≡ Some (told c)
 IsAnswer words (Err (Usage at)) = (meaning words ≡ None) × (at ≡ wrong_place words)
-IsAnswer words (Err NoMemory) = Unit {0}
+IsAnswer words (Err NoMemory) = (asked : Meaning) × (meaning words ≡ Some asked)

@@ -8,6 +8,7 @@ use crate::command::Command;
 use crate::errors::WordsErr;
 use crate::form::Form;
 use crate::matching::{form_of, wrong_place};
+use om_io::NoMemory;
 use std::alloc::Global;
 
 /// Reads the words of the command line, without the program's own name.
@@ -27,7 +28,10 @@ pub fn read_words(alloc: Global, words: &[String]) -> Result<Command, WordsErr>
     ensures { IsAnswer (texts words.now) result }
 {
     match form_of(words) {
-        Some(form) => Ok(build(alloc, form, words)?),
+        Some(form) => match build(alloc, form, words) {
+            Ok(command) => Ok(command),
+            Err(NoMemory) => Err(WordsErr::NoMemory),
+        },
         None => Err(WordsErr::Usage {
             at: wrong_place(words),
         }),

@@ -1,0 +1,33 @@
+-- What the outside of a command tells: its files and its streams.
+use Rattle.std.specs.Prelude.{◌≡◌, ℕ, Bool, List, Option}
+
+-- A store: whether it tells what its files hold, the files by name, the counts of failed loads and saves, the name of the
+-- last load that failed, and how many loads and saves were asked for
+pub record Files : Type 0 where
+  pub tells : Bool
+  pub file : List ℕ → Option (List ℕ)
+  pub failed_loads : ℕ
+  pub failed_saves : ℕ
+  pub last_failed : Option (List ℕ)
+  pub loads_asked : ℕ
+  pub saves_asked : ℕ
+
+-- A source or a sink: what is left or was written, where it tells, and how often it has failed
+pub record Stream : Type 0 where
+  pub told : Option (List ℕ)
+  pub faults : ℕ
+
+abbrev pub stream : Option (List ℕ) → ℕ → Stream
+stream told faults = record { told = told; faults = faults }
+
+pub record World : Type 0 where
+  pub files : Files
+  pub input : Stream
+  pub out : Stream
+  pub err : Stream
+
+-- nothing of the store or the input was asked for, and nothing was put on `out`
+pub record IsUntouched (old new : World) : Type 0 where
+  pub files : new.files ≡ old.files
+  pub input : new.input ≡ old.input
+  pub out : new.out ≡ old.out
