@@ -9,3 +9,4 @@ pub mod Adding
 pub mod Refusing
 pub mod Stopped
 pub mod Asking
+pub mod Pieces

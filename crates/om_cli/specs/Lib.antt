@@ -14,3 +14,4 @@ pub mod Causes
 pub mod Linking
 pub mod LinkAnswers
 pub mod Answers
+pub mod RunStops

@@ -1,8 +1,11 @@
 -- What is put on the error stream: a line, whole or in part.
-use Rattle.std.specs.Prelude.{◌≡◌, ◌++◌, ◌⊎◌, ℕ, List, Option, Some, Result, codes, decimal}
+use Rattle.std.specs.Prelude.{◌≡◌, ◌++◌, ◌⊎◌, ℕ, List, [], ◌∷◌, Option, Some, Result, codes, decimal}
 use Rattle.om_io.specs.Causes.{Rose, HasCause}
 use Rattle.om_io.specs.Outside.{Appends, IsFrontOf}
+use Rattle.om_io.specs.Digits.{hex}
 use Rattle.om_cli.specs.World.{Stream}
+use Rattle.om_cli.specs.declared.lines.Piece.{Piece}
+use Rattle.om_cli.specs.declared.lines.Piece.TheVariants.{Text, Number, Address, Offset}
 
 -- what puts of a line, piece by piece, do to what was written and to the count of faults
 pub record Adds {T E : Type 0} (line : List ℕ) (written_before : Option (List ℕ)) (faults_before : ℕ)
@@ -27,6 +30,17 @@ abbrev pub IsTold : ℕ → List ℕ → ℕ → Option (List ℕ) → ℕ → O
 IsTold status line result written_before faults_before written_after faults_after =
     ((result ≡ status) × HasLine line written_before faults_before written_after faults_after)
     ⊎ ((result ≡ 7) × HasFront line written_before faults_before written_after faults_after)
+
+-- the text of a piece of a line, and of pieces
+abbrev pub text_of : Piece → List ℕ
+text_of (Text text) = text.now
+text_of (Number n) = decimal n
+text_of (Address n) = hex 16 n
+text_of (Offset n) = hex 8 n
+
+abbrev pub texts_of : List Piece → List ℕ
+texts_of [] = []
+texts_of (p ∷ ps) = text_of p ++ texts_of ps
 
 -- the line of words that are no sentence
 abbrev pub usage_line : ℕ → List ℕ

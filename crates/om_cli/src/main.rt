@@ -4,9 +4,11 @@
 
 mod arguments;
 mod image;
+mod lines;
 mod linking;
 mod obeying;
 mod report;
+mod run_stop;
 mod stopping;
 #[cfg(test)]
 mod tests;

@@ -3,47 +3,22 @@ ghost use Rattle.std.specs.Prelude.{◌≡◌, ◌++◌, codes, decimal};
 ghost use Rattle.om_cli.specs.Causes.{line_of, refusal_line, status_of};
 ghost use Rattle.om_cli.specs.Telling.{Adds, IsTold, usage_line};
 
+use crate::lines::{Piece, put_line};
 use crate::stopping::{Refusal, Stop, status_for};
-use om_io::{Failed, Sink, put_dec};
-
-fn put_text<E: Sink>(err: &mut E, text: &[u8]) -> Result<(), Failed>
-    ensures { Adds text.now (E.written err.old) (E.faults err.old) (E.written err.new) (E.faults err.new) result }
-{
-    err.put(text)
-}
-
-fn put_word<E: Sink>(err: &mut E, word: &str) -> Result<(), Failed>
-    ensures { Adds word.now (E.written err.old) (E.faults err.old) (E.written err.new) (E.faults err.new) result }
-{
-    err.put(word.as_bytes())
-}
-
-fn put_number<E: Sink>(err: &mut E, n: u64) -> Result<(), Failed>
-    ensures { Adds (decimal n) (E.written err.old) (E.faults err.old) (E.written err.new) (E.faults err.new) result }
-{
-    put_dec(err, u128::from(n))
-}
+use om_io::{Failed, Sink};
 
 // A line that ends in the file's name.
-fn put_named<E: Sink>(err: &mut E, what: &[u8], file: &str) -> Result<(), Failed>
+fn put_named<'a, E: Sink>(err: &mut E, what: &'a [u8], file: &'a str) -> Result<(), Failed>
     ensures { Adds (what.now ++ file.now ++ codes "\n") (E.written err.old) (E.faults err.old) (E.written err.new) (E.faults err.new) result }
 {
-    put_text(err, what)?;
-    put_word(err, file)?;
-    put_text(err, b"\n")?;
-    Ok(())
-}
-
-// The front of the line of a broken rule: the file and the rule.
-fn put_rule<E: Sink>(err: &mut E, file: &str, rule: u8) -> Result<(), Failed>
-    ensures { Adds (codes "object " ++ file.now ++ codes " rule " ++ decimal rule)
-        (E.written err.old) (E.faults err.old) (E.written err.new) (E.faults err.new) result }
-{
-    put_text(err, b"object ")?;
-    put_word(err, file)?;
-    put_text(err, b" rule ")?;
-    put_number(err, u64::from(rule))?;
-    Ok(())
+    put_line(
+        err,
+        &[
+            Piece::Text(what),
+            Piece::Text(file.as_bytes()),
+            Piece::Text(b"\n"),
+        ],
+    )
 }
 
 // The line of a broken rule.
@@ -51,11 +26,18 @@ fn put_broken<E: Sink>(err: &mut E, file: &str, rule: u8, at: u64) -> Result<(),
     ensures { Adds (refusal_line (Refusal.Rule rule at) file.now)
         (E.written err.old) (E.faults err.old) (E.written err.new) (E.faults err.new) result }
 {
-    put_rule(err, file, rule)?;
-    put_text(err, b" at ")?;
-    put_number(err, at)?;
-    put_text(err, b"\n")?;
-    Ok(())
+    put_line(
+        err,
+        &[
+            Piece::Text(b"object "),
+            Piece::Text(file.as_bytes()),
+            Piece::Text(b" rule "),
+            Piece::Number(u64::from(rule)),
+            Piece::Text(b" at "),
+            Piece::Number(at),
+            Piece::Text(b"\n"),
+        ],
+    )
 }
 
 fn put_refusal<E: Sink>(err: &mut E, file: &str, refusal: Refusal) -> Result<(), Failed>
@@ -75,9 +57,9 @@ fn put_stop<E: Sink>(err: &mut E, file: &str, stop: Stop) -> Result<(), Failed>
 {
     match stop {
         Stop::Refused(refusal) => put_refusal(err, file, refusal),
-        Stop::ReadFault => put_text(err, b"read fault\n"),
-        Stop::WriteFault => put_text(err, b"write fault\n"),
-        Stop::NoMemory => put_text(err, b"no memory\n"),
+        Stop::ReadFault => put_line(err, &[Piece::Text(b"read fault\n")]),
+        Stop::WriteFault => put_line(err, &[Piece::Text(b"write fault\n")]),
+        Stop::NoMemory => put_line(err, &[Piece::Text(b"no memory\n")]),
     }
 }
 
@@ -95,10 +77,14 @@ pub(crate) fn report<E: Sink>(err: &mut E, file: &str, stop: Stop) -> u8
 fn put_usage<E: Sink>(err: &mut E, place: u64) -> Result<(), Failed>
     ensures { Adds (usage_line place) (E.written err.old) (E.faults err.old) (E.written err.new) (E.faults err.new) result }
 {
-    put_text(err, b"usage ")?;
-    put_number(err, place)?;
-    put_text(err, b"\n")?;
-    Ok(())
+    put_line(
+        err,
+        &[
+            Piece::Text(b"usage "),
+            Piece::Number(place),
+            Piece::Text(b"\n"),
+        ],
+    )
 }
 
 /// Says on the error stream at which place, from 1, the words are no sentence, and answers the status:
@@ -118,7 +104,7 @@ pub(crate) fn report_not_yet<E: Sink>(err: &mut E) -> u8
     ensures { IsTold 2 (codes "not yet\n") result
         (E.written err.old) (E.faults err.old) (E.written err.new) (E.faults err.new) }
 {
-    match put_text(err, b"not yet\n") {
+    match put_line(err, &[Piece::Text(b"not yet\n")]) {
         Ok(()) => 2,
         Err(Failed) => 7,
     }
