@@ -1,4 +1,5 @@
 pub mod Numerals
 pub mod Sentences
 pub mod Meaning
+pub mod Laws
 pub mod Rows

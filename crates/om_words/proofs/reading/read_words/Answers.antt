@@ -1,4 +1,4 @@
-use Rattle.std.proofs.Common.{◌∙◌, sym, ap, option_map}
+use Rattle.std.proofs.Common.{sym, ap, option_map}
 use Rattle.om_words.specs.Meaning.{meaning_by}
 use Rattle.om_words.specs.Sentences.{texts}
 use Rattle.om_words.proofs.reading.read_words.Goals as goal
