@@ -26,6 +26,20 @@ pub record World : Type 0 where
   pub out : Stream
   pub err : Stream
 
+abbrev pub files_of : Bool → (List ℕ → Option (List ℕ)) → ℕ → ℕ → Option (List ℕ) → ℕ → ℕ → Files
+files_of tells file failed_loads failed_saves last_failed loads_asked saves_asked = record {
+  tells = tells;
+  file = file;
+  failed_loads = failed_loads;
+  failed_saves = failed_saves;
+  last_failed = last_failed;
+  loads_asked = loads_asked;
+  saves_asked = saves_asked;
+}
+
+abbrev pub world : Files → Stream → Stream → Stream → World
+world files input out err = record { files = files; input = input; out = out; err = err }
+
 -- nothing of the store or the input was asked for, and nothing was put on `out`
 pub record IsUntouched (old new : World) : Type 0 where
   pub files : new.files ≡ old.files

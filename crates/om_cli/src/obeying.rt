@@ -8,6 +8,7 @@ ghost use Rattle.om_cli.specs.Answers.{MeaningAnswers};
 ghost use Rattle.om_cli.specs.Causes.{most_bytes, Refuses, status_of, line_of, refusal_line, IsCause, IsStatus};
 ghost use Rattle.om_cli.specs.Linking.{IsLinked, IsUnsaved, AsksSave};
 ghost use Rattle.om_cli.specs.Telling.{HasLine, IsTold};
+ghost use Rattle.om_cli.specs.World.{files_of, stream, world};
 ghost use Rattle.om_cli.specs.declared.stopping.Refusal.{Refusal};
 ghost use Rattle.om_cli.specs.declared.stopping.Stop.{Stop};
 
@@ -99,34 +100,12 @@ fn link_files<S: Store, I: Source, O: Sink, E: Sink>(
     err: &mut E,
 ) -> u8
     ensures { MeaningAnswers (Meaning.Link level name.now (texts files.now))
-        (record {
-          files = record {
-            tells = S.tells store.old;
-            file = S.file store.old;
-            failed_loads = S.failed_loads store.old;
-            failed_saves = S.failed_saves store.old;
-            last_failed = S.last_failed store.old;
-            loads_asked = S.loads_asked store.old;
-            saves_asked = S.saves_asked store.old;
-          };
-          input = record { told = I.left input.old; faults = I.faults input.old };
-          out = record { told = O.written out.old; faults = O.faults out.old };
-          err = record { told = E.written err.old; faults = E.faults err.old };
-        })
-        (record {
-          files = record {
-            tells = S.tells store.new;
-            file = S.file store.new;
-            failed_loads = S.failed_loads store.new;
-            failed_saves = S.failed_saves store.new;
-            last_failed = S.last_failed store.new;
-            loads_asked = S.loads_asked store.new;
-            saves_asked = S.saves_asked store.new;
-          };
-          input = record { told = I.left input.new; faults = I.faults input.new };
-          out = record { told = O.written out.new; faults = O.faults out.new };
-          err = record { told = E.written err.new; faults = E.faults err.new };
-        }) result }
+        (world (files_of (S.tells store.old) (S.file store.old) (S.failed_loads store.old) (S.failed_saves store.old)
+        (S.last_failed store.old) (S.loads_asked store.old) (S.saves_asked store.old)) (stream (I.left input.old) (I.faults input.old))
+        (stream (O.written out.old) (O.faults out.old)) (stream (E.written err.old) (E.faults err.old)))
+        (world (files_of (S.tells store.new) (S.file store.new) (S.failed_loads store.new) (S.failed_saves store.new)
+        (S.last_failed store.new) (S.loads_asked store.new) (S.saves_asked store.new)) (stream (I.left input.new) (I.faults input.new))
+        (stream (O.written out.new) (O.faults out.new)) (stream (E.written err.new) (E.faults err.new))) result }
 {
     if files.len() != 1 {
         return report_not_yet(err);
@@ -147,34 +126,12 @@ pub(crate) fn obey<S: Store, I: Source, O: Sink, E: Sink>(
     err: &mut E,
 ) -> u8
     ensures { MeaningAnswers (told command.now)
-        (record {
-          files = record {
-            tells = S.tells store.old;
-            file = S.file store.old;
-            failed_loads = S.failed_loads store.old;
-            failed_saves = S.failed_saves store.old;
-            last_failed = S.last_failed store.old;
-            loads_asked = S.loads_asked store.old;
-            saves_asked = S.saves_asked store.old;
-          };
-          input = record { told = I.left input.old; faults = I.faults input.old };
-          out = record { told = O.written out.old; faults = O.faults out.old };
-          err = record { told = E.written err.old; faults = E.faults err.old };
-        })
-        (record {
-          files = record {
-            tells = S.tells store.new;
-            file = S.file store.new;
-            failed_loads = S.failed_loads store.new;
-            failed_saves = S.failed_saves store.new;
-            last_failed = S.last_failed store.new;
-            loads_asked = S.loads_asked store.new;
-            saves_asked = S.saves_asked store.new;
-          };
-          input = record { told = I.left input.new; faults = I.faults input.new };
-          out = record { told = O.written out.new; faults = O.faults out.new };
-          err = record { told = E.written err.new; faults = E.faults err.new };
-        }) result }
+        (world (files_of (S.tells store.old) (S.file store.old) (S.failed_loads store.old) (S.failed_saves store.old)
+        (S.last_failed store.old) (S.loads_asked store.old) (S.saves_asked store.old)) (stream (I.left input.old) (I.faults input.old))
+        (stream (O.written out.old) (O.faults out.old)) (stream (E.written err.old) (E.faults err.old)))
+        (world (files_of (S.tells store.new) (S.file store.new) (S.failed_loads store.new) (S.failed_saves store.new)
+        (S.last_failed store.new) (S.loads_asked store.new) (S.saves_asked store.new)) (stream (I.left input.new) (I.faults input.new))
+        (stream (O.written out.new) (O.faults out.new)) (stream (E.written err.new) (E.faults err.new))) result }
 {
     match command {
         Command::Link {

@@ -1,6 +1,7 @@
 // All that the program does.
 ghost use Rattle.om_words.specs.Sentences.{texts};
 ghost use Rattle.om_cli.specs.Answers.{Answers};
+ghost use Rattle.om_cli.specs.World.{files_of, stream, world};
 
 use crate::obeying::obey;
 use crate::report::{report, report_usage};
@@ -24,34 +25,12 @@ pub fn om<S: Store, I: Source, O: Sink, E: Sink>(
     err: &mut E,
 ) -> u8
     ensures { Answers (texts words.now)
-        (record {
-          files = record {
-            tells = S.tells store.old;
-            file = S.file store.old;
-            failed_loads = S.failed_loads store.old;
-            failed_saves = S.failed_saves store.old;
-            last_failed = S.last_failed store.old;
-            loads_asked = S.loads_asked store.old;
-            saves_asked = S.saves_asked store.old;
-          };
-          input = record { told = I.left input.old; faults = I.faults input.old };
-          out = record { told = O.written out.old; faults = O.faults out.old };
-          err = record { told = E.written err.old; faults = E.faults err.old };
-        })
-        (record {
-          files = record {
-            tells = S.tells store.new;
-            file = S.file store.new;
-            failed_loads = S.failed_loads store.new;
-            failed_saves = S.failed_saves store.new;
-            last_failed = S.last_failed store.new;
-            loads_asked = S.loads_asked store.new;
-            saves_asked = S.saves_asked store.new;
-          };
-          input = record { told = I.left input.new; faults = I.faults input.new };
-          out = record { told = O.written out.new; faults = O.faults out.new };
-          err = record { told = E.written err.new; faults = E.faults err.new };
-        }) result }
+        (world (files_of (S.tells store.old) (S.file store.old) (S.failed_loads store.old) (S.failed_saves store.old)
+        (S.last_failed store.old) (S.loads_asked store.old) (S.saves_asked store.old)) (stream (I.left input.old) (I.faults input.old))
+        (stream (O.written out.old) (O.faults out.old)) (stream (E.written err.old) (E.faults err.old)))
+        (world (files_of (S.tells store.new) (S.file store.new) (S.failed_loads store.new) (S.failed_saves store.new)
+        (S.last_failed store.new) (S.loads_asked store.new) (S.saves_asked store.new)) (stream (I.left input.new) (I.faults input.new))
+        (stream (O.written out.new) (O.faults out.new)) (stream (E.written err.new) (E.faults err.new))) result }
 {
     match read_words(alloc, words) {
         Ok(command) => obey(alloc, &command, store, input, out, err),
