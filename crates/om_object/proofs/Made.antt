@@ -23,7 +23,7 @@ use Rattle.om_object.specs.declared.rules.SymbolRule.TheVariants.{Unwritable}
 use Rattle.om_object.specs.declared.rules.TableRule.TheVariants.{Over}
 use Rattle.om_object.specs.Rules.{Spot, AtSection, AtSymbol, PartRule, section_at, symbol_at, no_section, no_symbol, is_misfilled, is_crowded, bytes_wanted, section_breaks, symbol_breaks, is_unwritable, section_extent, made_rule_6, sections_where, symbols_where, rules_9_to_23, rule_25, rule_29, made_front, made_last, made_rules, AreKept, IsObject}
 use Rattle.om_object.specs.Spots.{places_of, place_of, first_spot}
-use Rattle.om_object.specs.File.{is_loaded, section_of_head, bytes_of_section, parts_of, origins_of, sym_at, head_breaks, front_rules, last_spot, HasSections}
+use Rattle.om_object.specs.File.{is_loaded, section_of_head, bytes_of_section, parts_of, origins_of, sym_at, head_breaks, last_spot, HasSections}
 use Rattle.om_fields.specs.Rules.{first_fault}
 use Rattle.om_object.proofs.HeadsAt.{section-inside}
 use Rattle.om_object.proofs.Placed.{IsPairAt, pair-at, number-by, same-lengths}
@@ -187,12 +187,6 @@ last-none file p o e =
     let c = first-none 26 (least (rule_26 file)) _ b.1 in
     let d = first-none 29 (least (places_of o (rule_29.1 p))) None c.1 in
     (b.0, (c.0, d.0))
-
--- the rule on where sections lie is kept where the front of the file has no fault
-pub apart-kept : (file : List ℕ) → first_fault front_rules file ≡ None → least (rule_6 file) ≡ None
-apart-kept file e =
-    let a = first-none 5 (least (rule_5 file)) _ e in
-    (first-none 6 (least (rule_6 file)) _ a.1).0
 
 -- what the rules that speak of files alone say of a file that keeps them
 pub record KeepsFile (file : List ℕ) : Type 0 where

@@ -8,6 +8,8 @@ mod faults;
 mod file_parts;
 #[cfg(test)]
 mod file_tests;
+mod flags;
+mod heads;
 mod instructions;
 mod kinds;
 mod lituse;
@@ -36,7 +38,7 @@ mod words;
 
 pub use entry::breaks;
 pub use errors::{MakeErr, ObjErr};
-pub use faults::{front_fault, last_fault, part_fault};
+pub use faults::{last_fault, part_fault};
 pub use file_parts::parts_of;
 pub use object::{Object, read_object};
 pub use origin::{Origin, Origins};
