@@ -1,8 +1,8 @@
 // Bytes of a file that were worked by hand.
+use crate::header_rules::{header_fault, misplaced_section};
 use crate::{
-    FieldErr, header_fault, misplaced_section, push_file_header, push_optional_header,
-    push_section_header, push_words, push_zeros, read_headers, read_headers_early, read_words,
-    u16_at, u32_at, u64_at,
+    FieldErr, push_file_header, push_optional_header, push_section_header, push_words, push_zeros,
+    read_headers, read_headers_early, read_words, u16_at, u32_at, u64_at,
 };
 use om_io::NoMemory;
 use std::alloc::Global;
