@@ -8,8 +8,8 @@ use Rattle.om_object.specs.declared.origin.Origins.{Origins}
 use Rattle.om_object.specs.Rules.{rules_9_to_23, IsObject}
 use Rattle.om_object.specs.Spots.{first_spot}
 use Rattle.om_object.specs.Passes.{IsPlaced}
-use Rattle.om_object.specs.File.{parts_of, origins_of, last_spot, sym_at, name_rules, ReadsParts}
-use Rattle.om_object.proofs.Chains.{whole-by, object-fault, object-unbroken, heads-kept, heads_fault}
+use Rattle.om_object.specs.File.{parts_of, origins_of, last_spot, sym_at, name_rules}
+use Rattle.om_object.proofs.Chains.{whole-by, object-fault, object-unbroken, heads-kept}
 use Rattle.om_object.proofs.Placed.{placed}
 use Rattle.om_object.proofs.Made.{KeepsFile, made, last-none}
 use Rattle.om_object.proofs.object.read_parts.Goals as goal
