@@ -1,5 +1,5 @@
 -- The numeric machine: registers hold numbers, and memory lies at addresses. What the instructions compute is the
--- Alpha Architecture Handbook's, chapters 4.3 and 4.4; where memory lies, and the system calls, are this project's own.
+-- Alpha Architecture Handbook's, chapter 4; where memory lies, and the system calls, are this project's own.
 --
 -- It has the eight instructions of a thin file: LDA, ADDQ, SUBQ, BIS, BR, BEQ, BNE and the system call. No other
 -- instruction stands in the image of such a file, and a step on one traps Access.

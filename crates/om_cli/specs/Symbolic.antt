@@ -1,5 +1,5 @@
 -- The symbolic machine: registers hold values, and no address has a number. What a value may be used for is this
--- project's own profile; what the instructions compute is the Alpha Architecture Handbook's, chapters 4.3 and 4.4.
+-- project's own profile; what the instructions compute is the Alpha Architecture Handbook's, chapter 4.
 --
 -- It has the eight instructions of a thin file: LDA, ADDQ, SUBQ, BIS, BR, BEQ, BNE and the system call. No other
 -- instruction stands in such a file, and a step on one observes.

@@ -1,5 +1,5 @@
 -- The first fault of a table of rules is the least broken rule with its least place.
-use Rattle.std.proofs.Common.{◌≡◌, inl, inr, ℕ, ◌<◌, List, [], ◌∷◌, refl, ap, ◌∙◌, arith}
+use Rattle.std.proofs.Common.{◌≡◌, inl, inr, ℕ, zero, suc, ◌<◌, List, [], ◌∷◌, refl, sym, ap, subst, ◌∙◌, arith}
 use Rattle.std.specs.Prelude.{Option, Some, None}
 use Rattle.om_fields.specs.Places.{least}
 use Rattle.om_fields.specs.Rules.{Rule, Breaks, IsFirstFault, IsUnbroken, first_fault, AreAbove, TablesAreRead}
@@ -71,6 +71,35 @@ unbroken_at (x ∷ xs) file r p h b =
 
 pub none_is_unbroken : {A : Type 0} (rules : List (Rule A)) (file : A) → first_fault rules file ≡ None → IsUnbroken rules file
 none_is_unbroken rules file h = record { nowhere = λ r p b. unbroken_at rules file r p h b }
+
+-- and the other way round: two first faults are one
+same_number : (a b : ℕ) → (a < b → ⊥) → (b < a → ⊥) → a ≡ b
+same_number zero zero p q = refl
+same_number zero (suc b) p q = absurd (p (omega arith))
+same_number (suc a) zero p q = absurd (q (omega arith))
+same_number (suc a) (suc b) p q = ap suc (same_number a b (λ h. p (omega (arith, h))) (λ h. q (omega (arith, h))))
+
+first_by : {A : Type 0} (n : ℕ) (rules : List (Rule A)) (file : A) (rule at : ℕ) (o : Option (ℕ × ℕ)) → AreAbove n rules
+    → first_fault rules file ≡ o → IsFirstFault rules file rule at → o ≡ Some (rule, at)
+first_by n rules file rule at None up e f = absurd ((none_is_unbroken rules file e).nowhere rule at f.broken)
+first_by n rules file rule at (Some (r, p)) up e f =
+    let g = fault_is_least n rules file r p up e in
+    let same : r ≡ rule = same_number r rule (λ h. f.no_less r p h g.broken) (λ h. g.no_less rule at h f.broken) in
+    let here : Breaks rules file rule p = subst (λ (n : ℕ). Breaks rules file n p) same g.broken in
+    let there : Breaks rules file r at = subst (λ (n : ℕ). Breaks rules file n at) (sym same) f.broken in
+    let near : p ≡ at = same_number p at (λ h. f.no_nearer p h here) (λ h. g.no_nearer at h there) in
+    cc
+
+pub least_is_first : {A : Type 0} (n : ℕ) (rules : List (Rule A)) (file : A) (rule at : ℕ) → AreAbove n rules → IsFirstFault rules file rule at → first_fault rules file ≡ Some (rule, at)
+least_is_first n rules file rule at up f = first_by n rules file rule at (first_fault rules file) up refl f
+
+none_here : {A : Type 0} (n : ℕ) (rules : List (Rule A)) (file : A) (o : Option (ℕ × ℕ)) → AreAbove n rules
+    → first_fault rules file ≡ o → IsUnbroken rules file → o ≡ None
+none_here n rules file None up e u = refl
+none_here n rules file (Some (r, p)) up e u = absurd (u.nowhere r p (fault_is_least n rules file r p up e).broken)
+
+pub unbroken_is_none : {A : Type 0} (n : ℕ) (rules : List (Rule A)) (file : A) → AreAbove n rules → IsUnbroken rules file → first_fault rules file ≡ None
+unbroken_is_none n rules file up u = none_here n rules file (first_fault rules file) up refl u
 
 pub tables_are_read : TablesAreRead
 tables_are_read rules file up = record {

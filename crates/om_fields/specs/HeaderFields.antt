@@ -81,14 +81,6 @@ is_other file k =
 abbrev pub rule_24 : List ℕ → List ℕ
 rule_24 file = heads_where (is_other file) file
 
--- the rules on headers that are tested before those on relocations, symbols and addresses
-abbrev pub header_rules : List (Rule (List ℕ))
-header_rules = (1, rule_1) ∷ (2, rule_2) ∷ (3, rule_3) ∷ (4, rule_4) ∷ []
-
--- the rules that a reader of the headers alone tests
-abbrev pub field_rules : List (Rule (List ℕ))
-field_rules = (1, rule_1) ∷ (2, rule_2) ∷ (3, rule_3) ∷ (4, rule_4) ∷ (24, rule_24) ∷ []
-
 -- where a section lies, by its header
 abbrev pub head_extent : List ℕ → ℕ → Extent
 head_extent file k = record {
@@ -101,3 +93,15 @@ head_extent file k = record {
 -- that shares an address with an earlier one
 abbrev pub rule_6 : List ℕ → List ℕ
 rule_6 file = heads_where (is_misplaced (head_extent file)) file
+
+-- the rules on headers that speak of no address
+abbrev pub header_rules : List (Rule (List ℕ))
+header_rules = (1, rule_1) ∷ (2, rule_2) ∷ (3, rule_3) ∷ (4, rule_4) ∷ []
+
+-- those that a reader of the headers tests early: all but rule 24
+abbrev pub early_rules : List (Rule (List ℕ))
+early_rules = (1, rule_1) ∷ (2, rule_2) ∷ (3, rule_3) ∷ (4, rule_4) ∷ (6, rule_6) ∷ []
+
+-- all rules that a reader of the headers alone tests
+abbrev pub field_rules : List (Rule (List ℕ))
+field_rules = (1, rule_1) ∷ (2, rule_2) ∷ (3, rule_3) ∷ (4, rule_4) ∷ (6, rule_6) ∷ (24, rule_24) ∷ []

@@ -3,7 +3,7 @@
 ghost use Rattle.std.specs.Prelude.{◌≡◌, ◌≤◌, ◌<◌, ◌+◌, ◌*◌, ◌^◌, length, IfNone, IfOk};
 ghost use Rattle.om_fields.specs.Places.{least, is_past as runs_out};
 ghost use Rattle.om_fields.specs.Rules.{first_fault};
-ghost use Rattle.om_fields.specs.HeaderFields.{section_count as count_of, header_at, number_of, runs_past, is_other, has_bytes, rule_1, rule_2, rule_3, rule_4, rule_6, rule_24, head_extent as extent_of, header_rules, field_rules};
+ghost use Rattle.om_fields.specs.HeaderFields.{section_count as count_of, header_at, number_of, runs_past, is_other, has_bytes, rule_1, rule_2, rule_3, rule_4, rule_6, rule_24, head_extent as extent_of, header_rules, early_rules, field_rules};
 
 use crate::extents::{Extent, add_loaded, is_out_of_place};
 use crate::reading::{u16_at, u64_at};
@@ -192,16 +192,30 @@ pub fn header_fault(bytes: &[u8]) -> Option<(u8, u64)>
     None
 }
 
-/// The first fault of the headers by the rules 1 to 4 and 24: the least broken rule and its least place.
-pub fn field_fault(bytes: &[u8]) -> Option<(u8, u64)>
-    ensures gives { result ≡ first_fault field_rules bytes.now }
-    ensures all { IfNone result (104 + 64 * count_of bytes.now ≤ length bytes.now) }
+/// The first fault of the headers by the rules 1 to 4 and 6: the least broken rule and its least place.
+pub fn early_fault(alloc: Global, bytes: &[u8]) -> Result<Option<(u8, u64)>, NoMemory>
+    ensures gives { IfOk result (λ fault. fault ≡ first_fault early_rules bytes.now) }
+    ensures all { IfOk result (λ fault. IfNone fault (104 + 64 * count_of bytes.now ≤ length bytes.now)) }
 {
     if let Some(fault) = header_fault(bytes) {
-        return Some(fault);
+        return Ok(Some(fault));
+    }
+    if let Some(at) = misplaced_section(alloc, bytes)? {
+        return Ok(Some((6, at)));
+    }
+    Ok(None)
+}
+
+/// The first fault of the headers by the rules 1 to 4, 6 and 24: the least broken rule and its least place.
+pub fn field_fault(alloc: Global, bytes: &[u8]) -> Result<Option<(u8, u64)>, NoMemory>
+    ensures gives { IfOk result (λ fault. fault ≡ first_fault field_rules bytes.now) }
+    ensures all { IfOk result (λ fault. IfNone fault (104 + 64 * count_of bytes.now ≤ length bytes.now)) }
+{
+    if let Some(fault) = early_fault(alloc, bytes)? {
+        return Ok(Some(fault));
     }
     if let Some(at) = other_section(bytes) {
-        return Some((24, at));
+        return Ok(Some((24, at)));
     }
-    None
+    Ok(None)
 }

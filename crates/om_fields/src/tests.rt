@@ -1,7 +1,8 @@
 // Bytes of a file that were worked by hand.
+use crate::header_rules::{header_fault, misplaced_section};
 use crate::{
-    FieldErr, header_fault, misplaced_section, push_file_header, push_optional_header,
-    push_section_header, push_words, push_zeros, read_headers, read_words, u16_at, u32_at, u64_at,
+    FieldErr, push_file_header, push_optional_header, push_section_header, push_words, push_zeros,
+    read_headers, read_headers_early, read_words, u16_at, u32_at, u64_at,
 };
 use om_io::NoMemory;
 use std::alloc::Global;
@@ -121,6 +122,49 @@ fn reads_headers(rt: HostRuntime) -> Result<(), Fail> {
             "changed at {at}"
         );
         file[at] = old;
+    }
+    Ok(())
+}
+
+// What both readers name of a file of two sections, each with its name, address and size.
+fn two_faults(
+    alloc: Global,
+    first: (&[u8; 8], u64, u64),
+    second: (&[u8; 8], u64, u64),
+) -> Result<(Option<(u8, u64)>, Option<(u8, u64)>), NoMemory> {
+    let mut file = Vec::new(alloc);
+    push_file_header(&mut file, 2, 0, 0)?;
+    push_optional_header(&mut file, 0, 0)?;
+    push_section_header(&mut file, first.0, first.1, first.2, 0, 0, 0)?;
+    push_section_header(&mut file, second.0, second.1, second.2, 0, 0, 0)?;
+    Ok((
+        fault(read_headers(alloc, &file)),
+        fault(read_headers_early(alloc, &file)),
+    ))
+}
+
+#[test]
+fn reads_headers_early(rt: HostRuntime) -> Result<(), Fail> {
+    let mut file = three_words(rt.alloc())?;
+    let headers = read_headers_early(rt.alloc(), &file)?;
+    assert_eq!(rt; (headers.gp, headers.sym_at), (0, 192));
+    assert_eq!(rt; headers.sections.as_slice().len(), 1);
+    // the second header lies in the text: a section of another name, and not empty
+    file[2] = 2;
+    let headers = read_headers_early(rt.alloc(), &file)?;
+    assert_eq!(rt; headers.sections.as_slice().len(), 2);
+    assert_eq!(rt; fault(read_headers(rt.alloc(), &file)), Some((24, 168)));
+    let other = (b".other\0\0", 0, 8);
+    let bss = (b".bss\0\0\0\0", 0, 8);
+    let sbss = (b".sbss\0\0\0", 7, 1);
+    let rows = [
+        (other, bss, Some((24, 104)), None),
+        (bss, bss, Some((6, 168)), Some((6, 168))),
+        (bss, sbss, Some((6, 168)), Some((6, 168))),
+        (bss, (b".sbss\0\0\0", 8, 1), None, None),
+    ];
+    for (first, second, whole, early) in rows {
+        assert_eq!(rt; two_faults(rt.alloc(), first, second)?, (whole, early));
     }
     Ok(())
 }

@@ -1,17 +1,20 @@
 -- Chains of rules.
 use Rattle.std.proofs.Common.{◌≡◌, ℕ, List, [], ◌∷◌, ◌++◌, map, true, false, refl, ap, ◌∙◌, arith}
-use Rattle.std.specs.Prelude.{Option, Some, None, is_some}
+use Rattle.std.specs.Prelude.{Option, Some, None, is_some, Err}
 use Rattle.std.specs.Option.{option_or}
 use Rattle.om_fields.specs.Places.{least, lesser_of}
 use Rattle.om_fields.specs.Rules.{Rule, first_fault, IsFirstFault, IsUnbroken, AreAbove}
 use Rattle.om_fields.proofs.FirstFault.{fault_is_least, none_is_unbroken}
-use Rattle.om_fields.specs.HeaderFields.{header_rules, rule_1, rule_2, rule_3, rule_4}
+use Rattle.om_fields.specs.HeaderFields.{rule_1, rule_2, rule_3, rule_4, rule_6}
+use Rattle.om_reloc.specs.Relocs.{rule_5}
 use Rattle.om_fields.proofs.Joined.{least-append}
 use Rattle.om_object.specs.declared.parts.Parts.{Parts}
 use Rattle.om_object.specs.declared.origin.Origins.{Origins}
 use Rattle.om_object.specs.Rules.{Spot, PartRule, rules_9_to_23}
 use Rattle.om_object.specs.Spots.{place_of, places_of, first_spot}
-use Rattle.om_object.specs.File.{on_file, parts_of, origins_of, front_rules, last_rules, last_spot, object_rules}
+use Rattle.om_object.specs.File.{on_file, parts_of, origins_of, head_rules, name_rules, last_rules, last_spot, object_rules, ReadsHeads, ReadsParts}
+use Rattle.om_object.specs.declared.errors.ObjErr.{ObjErr}
+use Rattle.om_object.specs.declared.errors.ObjErr.TheVariants as obj
 
 map-joining : (o : Origins) (xs ys : List Spot) → places_of o (xs ++ ys) ≡ places_of o xs ++ places_of o ys
 map-joining o [] ys = refl
@@ -84,14 +87,14 @@ pub spot-third : (qs rs ts : List PartRule) (p : Parts) (o : Origins) → is_som
 spot-third qs rs ts p o q r = spot-last qs rs ts p o (none-is (first_spot qs p o) q) (none-is (first_spot rs p o) r)
 
 -- the first fault of a file, by those of the groups of rules
-pub whole-by : (file : List ℕ) (h f p l : Option (ℕ × ℕ)) → first_fault header_rules file ≡ h → first_fault front_rules file ≡ f
+pub whole-by : (file : List ℕ) (h f p l : Option (ℕ × ℕ)) → first_fault head_rules file ≡ h → first_fault name_rules file ≡ f
     → first_spot rules_9_to_23 (parts_of file) (origins_of file) ≡ p → last_spot file (parts_of file) (origins_of file) ≡ l
     → first_fault object_rules file ≡ option_or h (option_or f (option_or p l))
 whole-by file h f p l eh ef ep el =
-    faults-append header_rules (front_rules ++ (map on_file rules_9_to_23 ++ last_rules)) file
-    ∙ ap (λ (x : Option (ℕ × ℕ)). option_or x (first_fault (front_rules ++ (map on_file rules_9_to_23 ++ last_rules)) file)) eh
+    faults-append head_rules (name_rules ++ (map on_file rules_9_to_23 ++ last_rules)) file
+    ∙ ap (λ (x : Option (ℕ × ℕ)). option_or x (first_fault (name_rules ++ (map on_file rules_9_to_23 ++ last_rules)) file)) eh
     ∙ ap (option_or h) (
-    faults-append front_rules (map on_file rules_9_to_23 ++ last_rules) file
+    faults-append name_rules (map on_file rules_9_to_23 ++ last_rules) file
     ∙ ap (λ (x : Option (ℕ × ℕ)). option_or x (first_fault (map on_file rules_9_to_23 ++ last_rules) file)) ef
     ∙ ap (option_or f) (
     faults-append (map on_file rules_9_to_23) last_rules file
@@ -157,15 +160,22 @@ object-fault file rule at h = fault_is_least 0 object_rules file rule at rise h
 pub object-unbroken : (file : List ℕ) → first_fault object_rules file ≡ None → IsUnbroken object_rules file
 object-unbroken file h = none_is_unbroken object_rules file h
 
--- the rule on the sections' bytes is kept where the headers have no fault
-pub bytes-kept : (file : List ℕ) → first_fault header_rules file ≡ None → least (rule_4 file) ≡ None
-bytes-kept file e = by_first (least (rule_1 file)) (least (rule_2 file)) (least (rule_3 file)) (least (rule_4 file)) e
-  where
-    by_first : (a b c d : Option ℕ)
-        → elim a as (λ _. Option (ℕ × ℕ)) [ None ↦ elim b as (λ _. Option (ℕ × ℕ)) [ None ↦ elim c as (λ _. Option (ℕ × ℕ)) [ None ↦ elim d as (λ _. Option (ℕ × ℕ)) [ None ↦ None | Some x ↦ Some (4, x) ] | Some x ↦ Some (3, x) ] | Some x ↦ Some (2, x) ] | Some x ↦ Some (1, x) ] ≡ None
-        → d ≡ None
-    by_first None None None None h = refl
-    by_first None None None (Some x) h = cc
-    by_first None None (Some x) d h = cc
-    by_first None (Some x) c d h = cc
-    by_first (Some x) b c d h = cc
+first-kept : (n : ℕ) (at : Option ℕ) (rest : Option (ℕ × ℕ)) → elim at as (λ _. Option (ℕ × ℕ)) [ None ↦ rest | Some x ↦ Some (n, x) ] ≡ None → (at ≡ None) × (rest ≡ None)
+first-kept n None rest e = (refl, e)
+first-kept n (Some x) rest e = cc
+
+-- the rules on the sections' bytes, on their relocation tables and on where they lie are kept where the headers have no fault
+pub heads-kept : (file : List ℕ) → first_fault head_rules file ≡ None → (least (rule_4 file) ≡ None) × ((least (rule_5 file) ≡ None) × (least (rule_6 file) ≡ None))
+heads-kept file e =
+    let a = first-kept 1 (least (rule_1 file)) _ e in
+    let b = first-kept 2 (least (rule_2 file)) _ a.1 in
+    let c = first-kept 3 (least (rule_3 file)) _ b.1 in
+    let d = first-kept 4 (least (rule_4 file)) _ c.1 in
+    let f = first-kept 5 (least (rule_5 file)) _ d.1 in
+    let g = first-kept 6 (least (rule_6 file)) None f.1 in
+    (d.0, (f.0, g.0))
+
+-- a fault of the headers is one of the file
+pub heads_fault : (file : List ℕ) (e : ObjErr) → ReadsHeads file (Err e) → ReadsParts file (Err e)
+heads_fault file (obj.Rule rule at) h = object-fault file rule at (whole-by file (Some (rule, at)) _ _ _ h refl refl refl)
+heads_fault file obj.NoMemory h = tt

@@ -1,5 +1,5 @@
 -- Whether a rule on parts is broken, and the first that is.
-use Rattle.std.proofs.Common.{◌≡◌, ℕ, ◌<◌, Bool, true, false, ◌||◌, List, [], ◌∷◌, ◌++◌, length, refl, ap, sym, ◌∙◌}
+use Rattle.std.proofs.Common.{◌≡◌, ℕ, Bool, true, false, ◌||◌, List, [], ◌∷◌, ◌++◌, length, refl, ap, ◌∙◌}
 use Rattle.std.specs.Prelude.{Option, Some, None, is_some, is_none, if◌then◌else◌}
 use Rattle.std.specs.Option.{option_or}
 use Rattle.om_fields.specs.Places.{least, picked}
@@ -11,7 +11,7 @@ use Rattle.om_symtab.specs.declared.symbol.ExtSym.{ExtSym}
 use Rattle.om_object.specs.declared.parts.Section.{Section}
 use Rattle.om_object.specs.declared.parts.Parts.{Parts}
 use Rattle.om_object.specs.Rules.{Spot, AtSection, PartRule, section_extent, made_rule_6, section_at, symbol_at, sections_where, symbols_where, is_found, first_broken, AreKept, IsObject, made_rules}
-use Rattle.om_object.specs.Spots.{place_of, places_of, origin_at}
+use Rattle.om_object.specs.Spots.{place_of, origin_at}
 use Rattle.om_object.specs.Passes.{symbol_place}
 use Rattle.om_object.proofs.Places.{no_origins, found-by-places, section_heads, symbol_places}
 

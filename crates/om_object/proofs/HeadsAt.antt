@@ -1,13 +1,19 @@
 -- The headers of a file whose sections lie in it.
-use Rattle.std.proofs.Common.{◌≡◌, ℕ, ◌<◌, Bool, true, false, ◌&&◌, List, length, refl, ap, ◌∙◌, arith}
-use Rattle.std.specs.Prelude.{Option, Some, slice_index_or, is_some}
+use Rattle.std.proofs.Common.{◌≡◌, ℕ, ◌<◌, Bool, true, false, ◌&&◌, List, length, refl, ap, subst, ◌∙◌, arith}
+use Rattle.std.specs.Prelude.{Option, Some, None, Err, slice_index_or, is_some}
 use Rattle.om_fields.specs.Places.{each, is_past}
 use Rattle.om_fields.proofs.Picked.{none-picked}
 use Rattle.om_fields.proofs.Each.{each_from-get, each_from-length}
 use Rattle.om_fields.specs.declared.head.SecHead.{SecHead}
 use Rattle.om_fields.specs.Sections.{is_bss}
-use Rattle.om_fields.specs.HeaderFields.{section_count, head_of, header_at, number_of, has_bytes, runs_past}
-use Rattle.om_reloc.specs.Relocs.{table_is_past}
+use Rattle.om_fields.specs.HeaderFields.{section_count, head_of, header_at, number_of, has_bytes, runs_past, early_rules, headers_of}
+use Rattle.om_fields.specs.Answers.{Reads}
+use Rattle.om_fields.specs.declared.head.FieldErr.{FieldErr}
+use Rattle.om_fields.specs.declared.head.FieldErr.TheVariants.{Rule as Broken}
+use Rattle.om_fields.proofs.Faults.{early_none, early_first}
+use Rattle.om_fields.specs.Rules.{IsFirstFault, IsUnbroken, first_fault}
+use Rattle.om_reloc.specs.Relocs.{table_is_past, early_table_rules}
+use Rattle.om_reloc.proofs.Entries.{no_early_fault}
 use Rattle.om_object.specs.declared.rules.TableRule.TheVariants.{Past}
 use Rattle.om_object.specs.File.{HasSections, head_breaks}
 
@@ -41,3 +47,14 @@ pub table-inside : (file : List ℕ) (k n : ℕ) → HasSections file → k < se
 table-inside file k n fits h number =
     last-false (is_some (number_of file k)) (table_is_past file (head_of file k))
     (loaded-by (number_of file k) n number) (none-picked (λ j. head_breaks Past file (head_of file j)) header_at (section_count file) fits.tables k h)
+
+-- the early reader of relocations finds no fault in a table that lies in the file
+pub no_table_fault : (file : List ℕ) (head : SecHead) (at rule place : ℕ) → table_is_past file head ≡ false → IsFirstFault (early_table_rules head at) file rule place → ⊥
+no_table_fault file head at rule place h f = no_early_fault file head at rule place h f
+
+-- what the early reader of headers says of the first fault
+pub early_kept : (file : List ℕ) → IsUnbroken early_rules file → first_fault early_rules file ≡ None
+early_kept file u = early_none file u
+
+pub early_named : (file : List ℕ) (e : FieldErr) (rule at : ℕ) → e ≡ Broken rule at → Reads early_rules file (headers_of file) (Err e) → first_fault early_rules file ≡ Some (rule, at)
+early_named file e rule at named h = early_first file rule at (subst (λ (x : FieldErr). Reads early_rules file (headers_of file) (Err x)) named h)

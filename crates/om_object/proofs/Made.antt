@@ -1,30 +1,29 @@
 -- The parts of a file that breaks no rule are an object.
-use Rattle.std.proofs.Common.{◌≡◌, ◌≢◌, ℕ, zero, suc, ◌+◌, ◌*◌, ◌/◌, ◌%◌, ◌^◌, ◌<◌, ◌≤◌, Bool, true, false, ◌&&◌, ◌||◌, ◌==◌, List, [], ◌∷◌, ◌++◌, length, take, drop, refl, ap, sym, subst, ◌∙◌, arith, eqb, cond}
+use Rattle.std.proofs.Common.{◌≡◌, ℕ, zero, suc, ◌+◌, ◌<◌, ◌≤◌, Bool, true, false, ◌&&◌, ◌||◌, ◌==◌, List, [], ◌∷◌, ◌++◌, length, take, drop, refl, ap, sym, subst, ◌∙◌, arith, cond}
 use native.Mathlib.Decide.{dec_le}
 use Rattle.std.proofs.lemmas.Bool.Decides.{nat_tests}
 use Rattle.std.proofs.lemmas.List.{length-drop, length-take-le}
 use Rattle.std.proofs.lemmas.List.Sums.{take_while-cons}
 use Rattle.std.specs.Prelude.{Option, Some, None, is_some, is_none, unwrap_or, slice_index, slice_index_or, not, nat_lt, nat_le, if◌then◌else◌, take_while, find, option_map, bytes_eq}
 use Rattle.byteorder.specs.Numbers.{little_from-lt}
-use Rattle.om_fields.specs.Places.{any_of, least, lesser, number_at, is_past, picked, picked_from, put_if, each, each_from}
+use Rattle.om_fields.specs.Places.{any_of, least, lesser, is_past, picked_from, put_if, each, each_from}
 use Rattle.om_fields.proofs.Each.{each_from-length, each_from-get}
 use Rattle.om_fields.proofs.Picked.{none-picked}
 use Rattle.om_fields.specs.declared.extents.Extent.{Extent}
 use Rattle.om_fields.specs.Extents.{collide, collides, ends_late, is_misplaced}
 use Rattle.om_fields.specs.Sections.{is_bss, number_of_name, name_of_number, loaded_sections}
 use Rattle.om_fields.specs.HeaderFields.{section_count, header_at, head_of, number_of, head_extent, rule_6, rule_24}
-use Rattle.om_symtab.specs.Symbols.{symbol_count, symbol_of, symbols_of, name_onward}
-use Rattle.om_reloc.specs.Relocs.{reloc_of, relocs_of, rule_5, rule_26, is_over}
+use Rattle.om_symtab.specs.Symbols.{symbol_count, symbol_of, name_onward}
+use Rattle.om_reloc.specs.Relocs.{reloc_of, relocs_of, rule_26, is_over}
 use Rattle.om_object.specs.declared.parts.Section.{Section}
 use Rattle.om_object.specs.declared.parts.Parts.{Parts}
 use Rattle.om_object.specs.declared.origin.Origins.{Origins}
-use Rattle.om_object.specs.declared.rules.SectionRule.TheVariants.{Uneven, Misfilled, Crowded}
+use Rattle.om_object.specs.declared.rules.SectionRule.TheVariants.{Misfilled, Crowded}
 use Rattle.om_object.specs.declared.rules.SymbolRule.TheVariants.{Unwritable}
 use Rattle.om_object.specs.declared.rules.TableRule.TheVariants.{Over}
-use Rattle.om_object.specs.Rules.{Spot, AtSection, AtSymbol, PartRule, section_at, symbol_at, no_section, no_symbol, is_misfilled, is_crowded, bytes_wanted, section_breaks, symbol_breaks, is_unwritable, section_extent, made_rule_6, sections_where, symbols_where, rules_9_to_23, rule_25, rule_29, made_front, made_last, made_rules, AreKept, IsObject}
+use Rattle.om_object.specs.Rules.{Spot, AtSection, AtSymbol, PartRule, section_at, symbol_at, no_section, no_symbol, is_misfilled, is_crowded, bytes_wanted, section_breaks, symbol_breaks, is_unwritable, section_extent, made_rule_6, sections_where, symbols_where, rules_9_to_23, rule_25, rule_29, made_front, made_last, AreKept, IsObject}
 use Rattle.om_object.specs.Spots.{places_of, place_of, first_spot}
-use Rattle.om_object.specs.File.{is_loaded, section_of_head, bytes_of_section, parts_of, origins_of, sym_at, head_breaks, front_rules, last_spot, HasSections}
-use Rattle.om_fields.specs.Rules.{first_fault}
+use Rattle.om_object.specs.File.{is_loaded, section_of_head, bytes_of_section, parts_of, sym_at, head_breaks, last_spot, HasSections}
 use Rattle.om_object.proofs.HeadsAt.{section-inside}
 use Rattle.om_object.proofs.Placed.{IsPairAt, pair-at, number-by, same-lengths}
 
@@ -187,12 +186,6 @@ last-none file p o e =
     let c = first-none 26 (least (rule_26 file)) _ b.1 in
     let d = first-none 29 (least (places_of o (rule_29.1 p))) None c.1 in
     (b.0, (c.0, d.0))
-
--- the rule on where sections lie is kept where the front of the file has no fault
-pub apart-kept : (file : List ℕ) → first_fault front_rules file ≡ None → least (rule_6 file) ≡ None
-apart-kept file e =
-    let a = first-none 5 (least (rule_5 file)) _ e in
-    (first-none 6 (least (rule_6 file)) _ a.1).0
 
 -- what the rules that speak of files alone say of a file that keeps them
 pub record KeepsFile (file : List ℕ) : Type 0 where

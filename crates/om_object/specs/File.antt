@@ -1,10 +1,11 @@
 -- The object that a file holds, and the rules on files.
 use Rattle.std.specs.Prelude.{◌≡◌, ⊤, ℕ, Bool, ◌&&◌, is_some, if◌then◌else◌, List, [], ◌∷◌, ◌++◌, map, Option, Some, None, unwrap_or, Result, Ok, Err}
 use Rattle.om_fields.specs.Places.{number_at, bytes_at, picked, least}
-use Rattle.om_fields.specs.Rules.{Rule, IsFirstFault, IsUnbroken}
+use Rattle.om_fields.specs.Rules.{Rule, IsFirstFault, IsUnbroken, first_fault}
 use Rattle.om_fields.specs.declared.head.SecHead.{SecHead}
+use Rattle.om_fields.specs.declared.head.Headers.{Headers}
 use Rattle.om_fields.specs.Sections.{is_bss, number_of_name}
-use Rattle.om_fields.specs.HeaderFields.{section_count, header_at, head_of, number_of, header_rules, rule_4, rule_6, rule_24}
+use Rattle.om_fields.specs.HeaderFields.{section_count, header_at, head_of, headers_of, number_of, header_rules, rule_4, rule_6, rule_24}
 use Rattle.om_symtab.specs.Symbols.{symbols_of, symbols_place, rule_7, rule_8}
 use Rattle.om_reloc.specs.Relocs.{relocs_of, rule_5, rule_26, table_is_past, is_over}
 use Rattle.om_object.specs.declared.parts.Section.{Section}
@@ -81,9 +82,13 @@ pub record HasSections (file : List ℕ) : Type 0 where
 abbrev pub on_file : PartRule → Rule (List ℕ)
 on_file r = (r.0, λ file. map (place_of (origins_of file)) (r.1 (parts_of file)))
 
--- the rules 5 to 8
-abbrev pub front_rules : List (Rule (List ℕ))
-front_rules = (5, rule_5) ∷ (6, rule_6) ∷ (7, λ file. rule_7 (sym_at file) file) ∷ (8, λ file. rule_8 (sym_at file) file) ∷ []
+-- the rules 1 to 6: on the headers, and on what they say of relocation tables and of addresses
+abbrev pub head_rules : List (Rule (List ℕ))
+head_rules = header_rules ++ (5, rule_5) ∷ (6, rule_6) ∷ []
+
+-- the rules 7 and 8, on symbols
+abbrev pub name_rules : List (Rule (List ℕ))
+name_rules = (7, λ file. rule_7 (sym_at file) file) ∷ (8, λ file. rule_8 (sym_at file) file) ∷ []
 
 -- the rules 24, 25, 26 and 29
 abbrev pub last_rules : List (Rule (List ℕ))
@@ -100,7 +105,13 @@ last_spot file p o =
 
 -- all rules of object files, in the order of their numbers
 abbrev pub object_rules : List (Rule (List ℕ))
-object_rules = header_rules ++ front_rules ++ map on_file rules_9_to_23 ++ last_rules
+object_rules = head_rules ++ name_rules ++ map on_file rules_9_to_23 ++ last_rules
+
+-- the headers of a file that breaks none of the rules 1 to 6, or the first of these that it breaks
+abbrev pub ReadsHeads : List ℕ → Result Headers ObjErr → Type 0
+ReadsHeads file (Ok headers) = (headers ≡ headers_of file) × (first_fault head_rules file ≡ None)
+ReadsHeads file (Err (obj.Rule rule at)) = first_fault head_rules file ≡ Some (rule, at)
+ReadsHeads file (Err obj.NoMemory) = ⊤
 
 -- a file that breaks no rule
 abbrev pub IsAccepted : List ℕ → Type 0

@@ -11,3 +11,4 @@ pub mod Marks
 pub mod Claims
 pub mod File
 pub mod ObjectRows
+pub mod MadeRows

@@ -3,42 +3,20 @@ ghost use Rattle.std.specs.Prelude.{◌≡◌, ◌≤◌, ◌+◌, ◌*◌, ◌+
 ghost use Rattle.om_fields.specs.Places.{least, each};
 ghost use Rattle.om_fields.specs.Rules.{first_fault};
 ghost use Rattle.om_fields.specs.HeaderFields.{section_count, head_of};
-ghost use Rattle.om_symtab.specs.Symbols.{HasTables};
-ghost use Rattle.om_reloc.specs.Relocs.{rule_5};
 ghost use Rattle.om_object.specs.Rules.{part_rule_12, part_rule_16, rules_9_to_12, rules_13_to_17, rules_21_to_23, rules_9_to_23};
 ghost use Rattle.om_object.specs.Spots.{places_of, first_spot};
 ghost use Rattle.om_object.specs.Passes.{IsPlaced};
-ghost use Rattle.om_object.specs.File.{front_rules, last_spot, sym_at};
+ghost use Rattle.om_object.specs.File.{last_spot};
 
+use crate::flags::is_there;
 use crate::origin::Origins;
 use crate::parts::Parts;
 use crate::passes::{least_found, least_section, least_symbol, lesser};
 use crate::rules::{Pass, RelocRule, SectionRule, SymbolRule, TableRule};
 use crate::tables::first_table;
-use om_fields::{SecHead, misplaced_section, other_section, u64_at};
+use om_fields::{SecHead, other_section};
 use om_io::NoMemory;
 use std::alloc::Global;
-
-/// The first fault of a file by the rules 5 to 8.
-pub fn front_fault(
-    alloc: Global,
-    bytes: &[u8],
-    heads: &[SecHead],
-) -> Result<Option<(u8, u64)>, NoMemory>
-    requires long { 104 + 64 * section_count bytes.now ≤ length bytes.now }
-    requires heads { heads.now ≡ each (head_of bytes.now) (section_count bytes.now) }
-    ensures fault { IfOk result (λ fault. fault ≡ first_fault front_rules bytes.now) }
-    ensures tables { IfOk result (λ fault. IfNone fault (least (rule_5 bytes.now) ≡ None)) }
-    ensures symbols { IfOk result (λ fault. IfNone fault (HasTables bytes.now (sym_at bytes.now))) }
-{
-    if let Some(at) = first_table(TableRule::Past, bytes, heads) {
-        return Ok(Some((5, at)));
-    }
-    if let Some(at) = misplaced_section(alloc, bytes)? {
-        return Ok(Some((6, at)));
-    }
-    Ok(om_symtab::first_fault(bytes, u64_at(bytes, 8)))
-}
 
 // Rule 12.
 fn mistargeted(alloc: Global, p: &Parts, o: &Origins) -> Result<Option<u64>, NoMemory>
@@ -114,12 +92,6 @@ fn fault_21_to_23(alloc: Global, p: &Parts, o: &Origins) -> Result<Option<(u8, u
         return Ok(Some((23, at)));
     }
     Ok(None)
-}
-
-fn is_there(fault: Option<(u8, u64)>) -> bool
-    ensures { result ≡ is_some fault }
-{
-    fault.is_some()
 }
 
 /// The first fault of parts by the rules 9 to 23.

@@ -4,14 +4,14 @@ ghost use Rattle.om_fields.specs.Places.{each, put_if, is_past};
 ghost use Rattle.om_fields.specs.Sections.{is_bss as has_none};
 ghost use Rattle.om_fields.specs.HeaderFields.{section_count, head_of, number_of};
 ghost use Rattle.om_symtab.specs.Symbols.{HasTables};
-ghost use Rattle.om_reloc.specs.Relocs.{table_is_past};
+ghost use Rattle.om_reloc.specs.Relocs.{relocs_of as relocs_in, table_is_past};
 ghost use Rattle.om_object.specs.File.{bytes_of_section, section_by, is_loaded, section_of_head, sym_at, parts_of as parts_in, origins_of as origins_in, origin_of, HasSections};
 
 use crate::origin::{Origin, Origins};
 use crate::parts::{Parts, Section};
-use om_fields::{SecHead, section_number, u64_at};
+use om_fields::{FieldErr, SecHead, section_number, u64_at};
 use om_io::{Bytes, Listed, NoMemory};
-use om_reloc::relocs;
+use om_reloc::{Reloc, read_relocs_early};
 use om_symtab::{symbols, symbols_place};
 use std::alloc::Global;
 
@@ -36,20 +36,44 @@ fn bytes_of(alloc: Global, bytes: &[u8], number: u8, head: &SecHead) -> Result<B
     Ok(Bytes::from_vec(items))
 }
 
+// A section's relocations, which lie in the file, whatever their number.
+#[tactic(auto, using(crate::proofs::HeadsAt::no_table_fault))]
+fn relocs_of(
+    alloc: Global,
+    bytes: &[u8],
+    head: &SecHead,
+    head_at: u64,
+) -> Result<Listed<Reloc>, NoMemory>
+    requires { table_is_past bytes.now head.now ≡ false }
+    ensures { IfOk result (λ relocs. relocs ≡ relocs_in bytes.now head.now) }
+{
+    match read_relocs_early(alloc, bytes, head, head_at) {
+        Ok(relocs) => Ok(relocs),
+        Err(FieldErr::NoMemory) => Err(NoMemory),
+        Err(FieldErr::Rule { .. }) => unreachable!(),
+    }
+}
+
 // A loaded section.
-fn section(alloc: Global, bytes: &[u8], number: u8, head: &SecHead) -> Result<Section, NoMemory>
+fn section(
+    alloc: Global,
+    bytes: &[u8],
+    number: u8,
+    head: &SecHead,
+    head_at: u64,
+) -> Result<Section, NoMemory>
     requires inside { has_none number ≡ false → is_past (length bytes.now) head.now.bytes_at head.now.size ≡ false }
     requires table { table_is_past bytes.now head.now ≡ false }
     ensures { IfOk result (λ section. section ≡ section_by bytes.now number head.now) }
 {
     let content = bytes_of(alloc, bytes, number, head)?;
-    let entries = relocs(alloc, bytes, head)?;
+    let relocs = relocs_of(alloc, bytes, head, head_at)?;
     Ok(Section {
         number,
         addr: head.addr,
         size: head.size,
         bytes: content,
-        relocs: entries,
+        relocs,
     })
 }
 
@@ -86,9 +110,10 @@ fn add_section(
     let Some(number) = section_number(head.name.as_slice()) else {
         return Ok(());
     };
-    let section = section(alloc, bytes, number, head)?;
+    let place = origin(head, k);
+    let section = section(alloc, bytes, number, head, place.head)?;
     sections.push(section)?;
-    origins.push(origin(head, k))?;
+    origins.push(place)?;
     Ok(())
 }
 

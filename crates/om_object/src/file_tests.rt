@@ -230,7 +230,7 @@ fn names_rules_of_two_files(rt: HostRuntime) -> Result<(), Fail> {
 fn accepts_what_no_rule_forbids(rt: HostRuntime) -> Result<(), Fail> {
     let alloc = rt.alloc();
     assert_eq!(rt; whole(alloc)?.len(), 1133);
-    let cases: [&[Piece<'_>]; 16] = [
+    let cases: [&[Piece<'_>]; 17] = [
         &[],
         // the last bytes of the file are those of `.lita`
         &[(392, &[0x5d, 0x04])],
@@ -257,6 +257,8 @@ fn accepts_what_no_rule_forbids(rt: HostRuntime) -> Result<(), Fail> {
         &[(424, b".xdata\0\0")],
         &[(424, b".pdata\0\0")],
         &[(424, b".foo\0\0\0\0"), (448, &[0])],
+        // two symbols share a name
+        &[(1016, &[0])],
         // the symbol of the branch is a common
         &[(704, &[3])],
     ];

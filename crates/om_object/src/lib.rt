@@ -8,9 +8,13 @@ mod faults;
 mod file_parts;
 #[cfg(test)]
 mod file_tests;
+mod flags;
+mod heads;
 mod instructions;
 mod kinds;
 mod lituse;
+#[cfg(test)]
+mod made_tests;
 mod making;
 mod object;
 mod origin;
@@ -20,6 +24,8 @@ mod rules;
 mod sections;
 mod shared;
 mod symbols;
+#[cfg(test)]
+mod table_tests;
 mod tables;
 #[cfg(test)]
 mod test_files;
@@ -34,16 +40,7 @@ mod tool_files;
 mod tool_tests;
 mod words;
 
-pub use entry::breaks;
 pub use errors::{MakeErr, ObjErr};
-pub use faults::{front_fault, last_fault, part_fault};
-pub use file_parts::parts_of;
 pub use object::{Object, read_object};
-pub use origin::{Origin, Origins};
 pub use parts::{Parts, Section};
-pub use passes::{
-    any_found, first_section, first_symbol, least_found, least_section, least_symbol,
-};
-pub use rules::{Pass, RelocRule, SectionRule, SymbolRule, TableRule};
-pub use tables::first_table;
 pub use thin::{Thin, read_thin};

@@ -3,6 +3,7 @@ ghost use Rattle.std.specs.Prelude.{◌≡◌, ◌<◌, ◌+◌, ◌*◌, ◌^�
 ghost use Rattle.om_fields.specs.Places.{least, picked};
 ghost use Rattle.om_object.specs.Rules.{is_unled, is_led, is_stray as strays};
 
+use crate::flags::either;
 use crate::kinds::{is_literal, is_lituse};
 use crate::parts::Section;
 use om_reloc::Reloc;
@@ -12,12 +13,6 @@ fn is_use(index: u32) -> bool
     ensures { result ≡ (nat_le 1 index && nat_le index 3) }
 {
     1 <= index && index <= 3
-}
-
-fn either(a: bool, b: bool) -> bool
-    ensures { result ≡ (a || b) }
-{
-    a || b
 }
 
 // Whether a relocation is a LITUSE without an earlier LITERAL, or of an unknown use.

@@ -5,6 +5,7 @@ ghost use Rattle.om_fields.specs.Sections.{name_of_number};
 ghost use Rattle.om_fields.specs.Extents.{is_misplaced};
 ghost use Rattle.om_object.specs.Rules.{section_at, extent_of, section_extent, made_rule_6, part_rule_12, part_rule_16, made_front, made_last, rules_9_to_12, rules_13_to_17, rules_21_to_23, made_rules, is_found, first_broken, sections_where, section_breaks, symbols_where, symbol_breaks};
 
+use crate::flags::{either, is_there};
 use crate::parts::{Parts, Section};
 use crate::passes::{any_found, first_section, first_symbol};
 use crate::rules::{Pass, RelocRule, SectionRule, SymbolRule};
@@ -42,12 +43,6 @@ fn extent(s: &Section) -> Extent
     }
 }
 
-fn either(a: bool, b: bool) -> bool
-    ensures { result ≡ (a || b) }
-{
-    a || b
-}
-
 // The first section that is none, ends too late or collides with an earlier one, by its index.
 fn first_misplaced(alloc: Global, p: &Parts) -> Result<Option<usize>, NoMemory>
     ensures { IfOk result (λ a. a ≡ least (picked (λ i. is_none (name_of_number (section_at p.now i).number) || is_misplaced (section_extent p.now) i) (λ i. i) (length p.now.sections))) }
@@ -66,12 +61,6 @@ fn first_misplaced(alloc: Global, p: &Parts) -> Result<Option<usize>, NoMemory>
         add_loaded(&mut loaded, range)?;
     }
     Ok(None)
-}
-
-fn is_there(found: Option<usize>) -> bool
-    ensures { result ≡ is_some found }
-{
-    found.is_some()
 }
 
 // Rule 6.
@@ -197,30 +186,24 @@ fn broken_last(alloc: Global, p: &Parts) -> Result<Option<u8>, NoMemory>
     Ok(None)
 }
 
-fn is_broken(rule: Option<u8>) -> bool
-    ensures { result ≡ is_some rule }
-{
-    rule.is_some()
-}
-
 /// The least rule that parts break.
 pub(crate) fn broken_rule(alloc: Global, p: &Parts) -> Result<Option<u8>, NoMemory>
     ensures { IfOk result (λ rule. rule ≡ first_broken made_rules p.now) }
 {
     let front = broken_front(alloc, p)?;
-    if is_broken(front) {
+    if is_there(front) {
         return Ok(front);
     }
     let first = broken_9_to_12(alloc, p)?;
-    if is_broken(first) {
+    if is_there(first) {
         return Ok(first);
     }
     let second = broken_13_to_17(alloc, p)?;
-    if is_broken(second) {
+    if is_there(second) {
         return Ok(second);
     }
     let third = broken_21_to_23(alloc, p)?;
-    if is_broken(third) {
+    if is_there(third) {
         return Ok(third);
     }
     let last = broken_last(alloc, p)?;

@@ -4,11 +4,11 @@ ghost use Rattle.om_object.specs.Rules.{IsObject as IsAnObject};
 ghost use Rattle.om_object.specs.File.{ReadsParts, MakesObject};
 
 use crate::errors::{MakeErr, ObjErr};
-use crate::faults::{front_fault, last_fault, part_fault};
+use crate::faults::{last_fault, part_fault};
 use crate::file_parts::parts_of;
+use crate::heads::sound_headers;
 use crate::making::broken_rule;
 use crate::parts::Parts;
-use om_fields::{file_headers, header_fault};
 use std::alloc::Global;
 use std::marker::Model;
 
@@ -53,16 +53,17 @@ impl Object {
 }
 
 // The parts of a file that breaks no rule, or the least broken rule with its least place.
+#[tactic(auto, using(crate::proofs::Chains::heads_fault))]
 fn read_parts(alloc: Global, bytes: &[u8]) -> Result<Parts, ObjErr>
     ensures reads { ReadsParts bytes.now result }
     ensures object { IfOk result (λ parts. IsAnObject parts) }
 {
-    if let Some((rule, at)) = header_fault(bytes) {
-        return Err(ObjErr::Rule { rule, at });
-    }
-    let headers = file_headers(alloc, bytes)?;
+    let headers = match sound_headers(alloc, bytes) {
+        Ok(headers) => headers,
+        Err(fault) => return Err(fault),
+    };
     let heads = headers.sections.as_slice();
-    if let Some((rule, at)) = front_fault(alloc, bytes, heads)? {
+    if let Some((rule, at)) = om_symtab::first_fault(bytes, headers.sym_at) {
         return Err(ObjErr::Rule { rule, at });
     }
     let (parts, origins) = parts_of(alloc, bytes, heads)?;
@@ -79,7 +80,9 @@ fn read_parts(alloc: Global, bytes: &[u8]) -> Result<Parts, ObjErr>
 /// that of a section header, a symbol, a relocation entry or a text word, as the rule says.
 ///
 /// The rules are 1 to 17, 21 to 26 and 29 of object files; a rule counts where no lesser one is broken. The fields are
-/// those of the ECOFF object format. Takes time near-linear in the file, and memory for what the parts hold.
+/// those of the ECOFF object format. Takes time near-linear in the file, and memory for what the parts hold: where the
+/// symbols' names, which may overlap in the file, have more than 268,435,456 bytes together, each with its zero, the
+/// answer is `NoMemory` (see `om_symtab::read_symbols`).
 pub fn read_object(alloc: Global, bytes: &[u8]) -> Result<Object, ObjErr>
     ensures { ReadsParts bytes.now result }
 {

@@ -7,6 +7,7 @@ ghost use Rattle.om_object.specs.Spots.{origin_at, places_of};
 ghost use Rattle.om_object.specs.Passes.{IsPlaced, indices_of, item_place as place_of_item, spots_of};
 
 use crate::entry::breaks;
+use crate::flags::is_there;
 use crate::kinds::is_ignore;
 use crate::lituse::first_unled;
 use crate::origin::{Origin, Origins};
@@ -112,12 +113,6 @@ pub fn least_found(
         best = lesser(best, found_place(pass, origins[a], found));
     }
     Ok(best)
-}
-
-fn is_there(found: Option<usize>) -> bool
-    ensures { result ≡ is_some found }
-{
-    found.is_some()
 }
 
 /// Whether a pass finds anything.

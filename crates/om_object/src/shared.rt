@@ -5,17 +5,12 @@ ghost use Rattle.om_object.specs.Claims.{IsSeen, behind};
 ghost use Rattle.om_object.specs.Rules.{repeats, four_bytes, field_bytes, is_shared};
 
 use crate::claimed::Claimed;
+use crate::flags::either;
 use crate::parts::Section;
 use crate::words::{lda_offset, offset};
 use om_io::NoMemory;
 use om_reloc::{Reloc, RelocKind};
 use std::alloc::Global;
-
-fn either(a: bool, b: bool) -> bool
-    ensures { result ≡ (a || b) }
-{
-    a || b
-}
 
 // Claims the four bytes at an offset. Whether one was so before.
 #[tactic(auto, unfolding(crate::specs::Rules::four_bytes))]

@@ -1,40 +1,8 @@
 // Files that were worked by hand.
+use crate::test_files::three_words;
 use crate::{ObjErr, read_thin};
-use std::alloc::{AllocError, Global};
+use std::alloc::Global;
 use std::test::Fail;
-
-// The file of three words: two addresses are loaded, and the system is called.
-fn three_words(alloc: Global) -> Result<Vec<u8>, AllocError> {
-    let pieces: [(usize, &[u8]); 16] = [
-        (0, &[0x83, 0x01, 0x01]),
-        (8, &[0xc0]),
-        (16, &[0x90]),
-        (20, &[0x50]),
-        (104, b".text"),
-        (128, &[0x0c]),
-        (136, &[0xb0]),
-        (176, &[0x01, 0x00, 0x1f, 0x20]),
-        (180, &[0x07, 0x00, 0x1f, 0x22, 0x83]),
-        (192, &[0x92, 0x19]),
-        (224, &[0x08]),
-        (236, &[0x01]),
-        (304, &[0x68, 0x01]),
-        (328, &[0x50, 0x01]),
-        (348, &[0x40]),
-        (360, b"__start"),
-    ];
-    let mut file = vec![in alloc; 0u8; 368]?;
-    for (at, bytes) in pieces {
-        let mut place = at;
-        for byte in bytes {
-            if place < file.len() {
-                file[place] = *byte;
-            }
-            place = place.saturating_add(1);
-        }
-    }
-    Ok(file)
-}
 
 // The rule that a file breaks and where, or none.
 fn fault(alloc: Global, file: &[u8]) -> Option<(u8, u64)> {

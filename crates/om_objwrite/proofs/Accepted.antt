@@ -6,7 +6,7 @@ use Rattle.std.proofs.lemmas.Bool.Decides.{nat_tests}
 use Rattle.om_fields.specs.Places.{number_at, bytes_at, each, picked, place_if, is_past, IsAmong}
 use Rattle.om_fields.specs.Rules.{Rule, Breaks}
 use Rattle.om_fields.specs.Sections.{is_passed_over}
-use Rattle.om_fields.specs.HeaderFields.{section_count, header_at, head_of, number_of, head_extent, runs_past, is_other, header_rules, rule_1, rule_2, rule_3, rule_4, rule_6, rule_24}
+use Rattle.om_fields.specs.HeaderFields.{section_count, header_at, head_of, number_of, head_extent, runs_past, is_other, rule_1, rule_2, rule_3, rule_4, rule_6, rule_24}
 use Rattle.om_fields.specs.declared.extents.Extent.{Extent}
 use Rattle.om_fields.specs.Extents.{is_misplaced, collides, ends_late}
 use Rattle.om_symtab.specs.declared.symbol.ExtSym.{ExtSym}
@@ -17,7 +17,7 @@ use Rattle.om_object.specs.declared.parts.Parts.{Parts}
 use Rattle.om_object.specs.Rules.{Spot, PartRule, AreKept, IsObject, rules_9_to_23, rule_25, rule_29, no_section, no_symbol, section_at, section_extent, sections_where, section_breaks}
 use Rattle.om_object.specs.declared.rules.SectionRule.TheVariants.{Crowded}
 use Rattle.om_object.specs.Spots.{place_of}
-use Rattle.om_object.specs.File.{parts_of, origins_of, on_file, front_rules, last_rules, object_rules, is_loaded, section_of_head, sym_at, IsAccepted}
+use Rattle.om_object.specs.File.{parts_of, origins_of, on_file, head_rules, name_rules, last_rules, object_rules, is_loaded, section_of_head, sym_at, IsAccepted}
 use Rattle.om_objwrite.specs.Written.{file_of, strings, bodies, bodies_at, tables_at, tables_end, symbolic_at}
 use Rattle.om_objwrite.specs.Lengths.{total_length}
 use Rattle.om_objwrite.specs.RoundTrip.{HasWidths, WrittenIsRead}
@@ -251,11 +251,11 @@ module _ (p : Parts) (reads : FileReads p) where
       let rest = rule_25 ∷ (26, λ p. sections_where p (section_breaks Crowded)) ∷ rule_29 ∷ [] in
       let kept : AreKept (rules_9_to_23 ++ rest) p = object.kept.1.1.1 in
       let split = kept_split rules_9_to_23 rest p kept in
-      let first : AreEmpty (header_rules ++ front_rules) file = (kept_1, (kept_2, (kept_3, (kept_4, (kept_5, (kept_6 object, (kept_7, (kept_8, tt)))))))) in
+      let first : AreEmpty (head_rules ++ name_rules) file = (kept_1, (kept_2, (kept_3, (kept_4, (kept_5, (kept_6 object, (kept_7, (kept_8, tt)))))))) in
       let middle = parts_empty rules_9_to_23 p file back split.0 in
       let last : AreEmpty last_rules file = (kept_24, (part_empty rule_25 p file back split.1.0, (kept_26, (part_empty rule_29 p file back split.1.1.1.0, tt)))) in
-      empty_append (header_rules ++ front_rules ++ map on_file rules_9_to_23) last_rules file
-      (empty_append (header_rules ++ front_rules) (map on_file rules_9_to_23) file first middle) last
+      empty_append (head_rules ++ name_rules ++ map on_file rules_9_to_23) last_rules file
+      (empty_append (head_rules ++ name_rules) (map on_file rules_9_to_23) file first middle) last
 
   pub accepted : IsObject p → IsAccepted file
   accepted object = record { nowhere = λ rule at b. empty_unbroken object_rules file (empty object) rule at b }

@@ -2,5 +2,4 @@ pub mod Written
 pub mod Lengths
 pub mod LaidOut
 pub mod RoundTrip
-pub mod MadeRows
 pub mod Rows

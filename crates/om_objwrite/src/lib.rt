@@ -2,8 +2,6 @@
 #![tactic(auto)]
 
 mod blocks;
-#[cfg(test)]
-mod made_tests;
 mod places;
 mod relocations;
 mod round_trip;

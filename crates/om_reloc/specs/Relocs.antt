@@ -64,7 +64,11 @@ is_over head = head.relocs == 65535
 abbrev pub table_rules : SecHead → ℕ → List (Rule (List ℕ))
 table_rules head at = (5, λ file. place_if (table_is_past file head) at) ∷ (26, λ file. place_if (is_over head) at) ∷ []
 
--- the same of all loaded sections of a file, at their headers
+-- those that a reader tests early: all but rule 26
+abbrev pub early_table_rules : SecHead → ℕ → List (Rule (List ℕ))
+early_table_rules head at = (5, λ file. place_if (table_is_past file head) at) ∷ []
+
+-- the two rules on all loaded sections of a file, at their headers
 abbrev pub rule_5 : List ℕ → List ℕ
 rule_5 file = heads_where (λ k. is_some (number_of file k) && table_is_past file (head_of file k)) file
 

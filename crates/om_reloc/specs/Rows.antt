@@ -4,7 +4,7 @@ use Rattle.om_fields.specs.Rules.{first_fault}
 use Rattle.om_fields.specs.RowOne.{row_one}
 use Rattle.om_fields.specs.Sections.{number_of_name}
 use Rattle.om_fields.specs.declared.head.SecHead.{SecHead}
-use Rattle.om_reloc.specs.Relocs.{kind_of, reloc_at, relocs_of, table_rules, rule_5, rule_26}
+use Rattle.om_reloc.specs.Relocs.{kind_of, reloc_at, relocs_of, table_rules, early_table_rules, rule_5, rule_26}
 use Rattle.om_reloc.specs.declared.reloc.RelocKind.TheVariants.{Ignore, RefLong, RefQuad, GpRel32, Literal, LitUse, GpDisp, BrAddr, Hint, Other}
 
 pub row_kinds : map kind_of (0 ∷ 1 ∷ 2 ∷ 3 ∷ 4 ∷ 5 ∷ 6 ∷ 7 ∷ 8 ∷ 9 ∷ 255 ∷ [])
@@ -47,12 +47,18 @@ row_empty_behind = refl
 pub row_many : first_fault (table_rules (table 0 65535) 104) (branch ++ base) ≡ Some (5, 104)
 row_many = refl
 
+pub row_past_the_end_early : first_fault (early_table_rules (table 1 2) 104) (branch ++ base) ≡ Some (5, 104)
+row_past_the_end_early = refl
+
 -- the places of rule 26, in whatever file
 pub row_not_over : map (λ r. r.1 []) (table_rules (table 0 65534) 104) ≡ (104 ∷ []) ∷ [] ∷ []
 row_not_over = refl
 
 pub row_over : map (λ r. r.1 []) (table_rules (table 0 65535) 104) ≡ (104 ∷ []) ∷ (104 ∷ []) ∷ []
 row_over = refl
+
+pub row_over_early : map (λ r. r.0) (early_table_rules (table 0 65535) 104) ≡ 5 ∷ []
+row_over_early = refl
 
 -- a whole file of one text: a table that runs past the end, with 65535 entries
 pub row_file_none : rule_5 row_one ≡ []

@@ -2,7 +2,7 @@
 ghost use Rattle.std.specs.Prelude.{◌≡◌, ◌≤◌, ◌<◌, ◌+◌, ◌*◌, length, IfOk, false};
 ghost use Rattle.om_fields.specs.Places.{each};
 ghost use Rattle.om_fields.specs.Answers.{Reads};
-ghost use Rattle.om_reloc.specs.Relocs.{kind_of, reloc_at, entry_at, relocs_of, table_is_past as past_end, is_over as over, table_rules};
+ghost use Rattle.om_reloc.specs.Relocs.{kind_of, reloc_at, entry_at, relocs_of, table_is_past as past_end, is_over as over, table_rules, early_table_rules};
 
 use crate::reloc::{Reloc, RelocKind};
 use om_fields::{FieldErr, SecHead, is_past, u32_at, u64_at};
@@ -54,9 +54,9 @@ pub fn is_over(head: &SecHead) -> bool
     head.relocs == 65535
 }
 
-/// The relocation entries of a section whose table lies in the file, in their order; also 65535 of them.
+// The relocation entries of a section whose table lies in the file, in their order; also 65535 of them.
 #[tactic(auto, using(crate::proofs::Entries::relocs_snoc))]
-pub fn relocs(alloc: Global, bytes: &[u8], head: &SecHead) -> Result<Listed<Reloc>, NoMemory>
+fn relocs(alloc: Global, bytes: &[u8], head: &SecHead) -> Result<Listed<Reloc>, NoMemory>
     requires { past_end bytes.now head.now ≡ false }
     ensures { IfOk result (λ relocs. relocs ≡ relocs_of bytes.now head.now) }
 {
@@ -95,4 +95,25 @@ pub fn read_relocs(
         });
     }
     Ok(relocs(alloc, bytes, head)?)
+}
+
+/// What `read_relocs` gives but for rule 26, which is not tested: the relocation entries of a section in their order, also
+/// 65535 of them, or rule 5 with the place `head_at`. It is for readers of whole files, which name other broken rules
+/// before rule 26.
+#[tactic(auto, using(crate::proofs::Entries::early_past_is, crate::proofs::Entries::early_unbroken))]
+pub fn read_relocs_early(
+    alloc: Global,
+    bytes: &[u8],
+    head: &SecHead,
+    head_at: u64,
+) -> Result<Listed<Reloc>, FieldErr>
+    ensures { Reads (early_table_rules head.now head_at) bytes.now (relocs_of bytes.now head.now) result }
+{
+    if !table_is_past(bytes, head) {
+        return Ok(relocs(alloc, bytes, head)?);
+    }
+    Err(FieldErr::Rule {
+        rule: 5,
+        at: head_at,
+    })
 }

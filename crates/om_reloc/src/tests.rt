@@ -1,7 +1,7 @@
 // Entries that were worked by hand.
-use crate::{Reloc, RelocKind, read_relocs};
+use crate::{Reloc, RelocKind, read_relocs, read_relocs_early};
 use om_fields::{FieldErr, SecHead};
-use om_io::Name;
+use om_io::{Listed, Name};
 use std::alloc::{AllocError, Global};
 use std::test::Fail;
 
@@ -43,28 +43,32 @@ fn reads_entries(rt: HostRuntime) -> Result<(), Fail> {
     Ok(())
 }
 
+// The rule and the place that a reader names of a table, or how many entries it gives; (0, 0) where memory was wanting.
+fn answer(read: Result<Listed<Reloc>, FieldErr>) -> Result<usize, (u8, u64)> {
+    match read {
+        Ok(relocs) => Ok(relocs.as_slice().len()),
+        Err(FieldErr::Rule { rule, at }) => Err((rule, at)),
+        Err(FieldErr::NoMemory) => Err((0, 0)),
+    }
+}
+
 #[test]
-fn refuses_tables(rt: HostRuntime) -> Result<(), Fail> {
+fn reads_tables(rt: HostRuntime) -> Result<(), Fail> {
     let file = vec![in rt.alloc(); 0u8; 1_048_560]?;
     let rows = [
-        (0, 65535, Some((26, 168))),
-        (1, 65535, Some((5, 168))),
-        (16, 65534, None),
-        (17, 65534, Some((5, 168))),
-        (u64::MAX, 0, None),
-        (u64::MAX, 1, Some((5, 168))),
+        (0, 65535, Err((26, 168)), Ok(65535)),
+        (1, 65535, Err((5, 168)), Err((5, 168))),
+        (16, 65534, Ok(65534), Ok(65534)),
+        (17, 65534, Err((5, 168)), Err((5, 168))),
+        (u64::MAX, 0, Ok(0), Ok(0)),
+        (u64::MAX, 1, Err((5, 168)), Err((5, 168))),
     ];
-    for (at, count, expected) in rows {
+    for (at, count, whole, early) in rows {
         let head = header(rt.alloc(), at, count)?;
-        let found = match read_relocs(rt.alloc(), &file, &head, 168) {
-            Ok(relocs) => {
-                assert_eq!(rt; relocs.as_slice().len(), usize::from(count));
-                None
-            }
-            Err(FieldErr::Rule { rule, at }) => Some((rule, at)),
-            Err(FieldErr::NoMemory) => Some((0, 0)),
-        };
-        assert_eq!(rt; found, expected, "{count} at {at}");
+        let found = answer(read_relocs(rt.alloc(), &file, &head, 168));
+        assert_eq!(rt; found, whole, "{count} at {at}");
+        let found = answer(read_relocs_early(rt.alloc(), &file, &head, 168));
+        assert_eq!(rt; found, early, "{count} at {at}, early");
     }
     Ok(())
 }

@@ -10,16 +10,25 @@ use om_fields::{FieldErr, u16_at, u32_at, u64_at};
 use om_io::{Listed, Name, NoMemory};
 use std::alloc::Global;
 
-// The bytes before the first zero.
-fn before_zero(bytes: &[u8]) -> &[u8]
-    ensures { result.now ≡ take_while (λ c. not (c == 0)) bytes.now }
+// The most bytes that the names of one file's symbols may have together, each with the zero that ends it: as many as all
+// files of one call may have. Names overlap where symbols share one, or where one is the end of another; only then can
+// they have more.
+const NAMES_ROOM: usize = 268_435_456;
+
+// The bytes before the first zero, which is looked for in the first `room` bytes; `NoMemory` where it is none of them and
+// others follow.
+pub(crate) fn before_zero(bytes: &[u8], room: usize) -> Result<&[u8], NoMemory>
+    ensures { IfOk result (λ front. front.now ≡ take_while (λ c. not (c == 0)) bytes.now) }
 {
     for i in 0..bytes.len() {
+        if i >= room {
+            return Err(NoMemory);
+        }
         if bytes[i] == 0 {
-            return &bytes[..i];
+            return Ok(&bytes[..i]);
         }
     }
-    bytes
+    Ok(bytes)
 }
 
 // The bytes from an index on, of which there may be none.
@@ -32,15 +41,15 @@ fn onward(bytes: &[u8], index: usize) -> &[u8]
     &bytes[..0]
 }
 
-// The `j`-th external symbol.
-fn symbol(alloc: Global, bytes: &[u8], at: u64, j: usize) -> Result<ExtSym, NoMemory>
+// The `j`-th external symbol. Its name and the zero behind it find room in `room` bytes; else `NoMemory`.
+fn symbol(alloc: Global, bytes: &[u8], at: u64, j: usize, room: usize) -> Result<ExtSym, NoMemory>
     requires tables { HasTables bytes.now at }
     requires inside { j < symbol_count bytes.now at }
     ensures { IfOk result (λ symbol. symbol ≡ symbol_of bytes.now at j) }
 {
     let place = symbol_place(bytes, at, j);
     let index = u32_at(bytes, place + 8) as usize;
-    let name = before_zero(onward(strings(bytes, at), index)).to_vec(alloc)?;
+    let name = before_zero(onward(strings(bytes, at), index), room)?.to_vec(alloc)?;
     Ok(ExtSym {
         name: Name::from_vec(name),
         value: u64_at(bytes, place),
@@ -48,18 +57,42 @@ fn symbol(alloc: Global, bytes: &[u8], at: u64, j: usize) -> Result<ExtSym, NoMe
     })
 }
 
-/// The external symbols of a file whose symbolic header and tables lie in it, in their order. A name that no zero ends goes
-/// to the end of the strings.
+// The room that a symbol's name and the zero behind it leave.
+fn room_left(room: usize, symbol: &ExtSym) -> usize {
+    room.saturating_sub(symbol.name.as_slice().len())
+        .saturating_sub(1)
+}
+
+/// The external symbols of a file whose symbolic header and tables lie in it, in their order; `NoMemory` also where their
+/// names, each with its zero, have more than `room` bytes together. No more bytes than these are looked at or copied.
 #[tactic(auto, using(crate::proofs::InOrder::symbols_snoc))]
-pub fn symbols(alloc: Global, bytes: &[u8], at: u64) -> Result<Listed<ExtSym>, NoMemory>
+pub(crate) fn symbols_within(
+    alloc: Global,
+    bytes: &[u8],
+    at: u64,
+    room: usize,
+) -> Result<Listed<ExtSym>, NoMemory>
     requires tables { HasTables bytes.now at }
     ensures { IfOk result (λ symbols. symbols ≡ symbols_of bytes.now at) }
 {
     let mut symbols = Vec::new(alloc);
+    let mut left = room;
     for j in 0..count(bytes, at) {
-        symbols.push(symbol(alloc, bytes, at, j)?)?;
+        let symbol = symbol(alloc, bytes, at, j, left)?;
+        left = room_left(left, &symbol);
+        symbols.push(symbol)?;
     }
     Ok(Listed::from_vec(symbols))
+}
+
+/// The external symbols of a file whose symbolic header and tables lie in it, in their order. A name that no zero ends goes
+/// to the end of the strings. `NoMemory` also where the names have more than 268,435,456 bytes together (see
+/// `read_symbols`).
+pub fn symbols(alloc: Global, bytes: &[u8], at: u64) -> Result<Listed<ExtSym>, NoMemory>
+    requires tables { HasTables bytes.now at }
+    ensures { IfOk result (λ symbols. symbols ≡ symbols_of bytes.now at) }
+{
+    symbols_within(alloc, bytes, at, NAMES_ROOM)
 }
 
 /// The external symbols of a file whose symbolic header stands at `sym_at` (a byte offset; 0 where there is none), in
@@ -70,6 +103,10 @@ pub fn symbols(alloc: Global, bytes: &[u8], at: u64) -> Result<Listed<ExtSym>, N
 /// `sym_at`. Rule 8: a name's index is outside the strings, or no zero byte follows in them; its place is the symbol's.
 /// An empty table never runs past the end. The fields are those of the symbolic header and of external symbols of the ECOFF
 /// object format for Alpha.
+///
+/// Symbols may share a name, so a small file can ask for many bytes of names: where they have more than 268,435,456 bytes
+/// together, each with its zero, the answer is `NoMemory`, and no more than these are looked at or copied. Names that do not
+/// overlap have no more bytes than the file.
 #[tactic(auto, using(crate::proofs::InOrder::fault_is, crate::proofs::InOrder::unbroken))]
 pub fn read_symbols(alloc: Global, bytes: &[u8], sym_at: u64) -> Result<Listed<ExtSym>, FieldErr>
     ensures { Reads (symbol_rules sym_at) bytes.now (symbols_of bytes.now sym_at) result }

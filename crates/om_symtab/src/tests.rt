@@ -1,4 +1,5 @@
 // A file that was worked by hand: its symbols, and what little changes make of them.
+use crate::reading::before_zero;
 use crate::{ExtSym, read_symbols};
 use om_fields::{FieldErr, push_zeros};
 use om_io::{Listed, NoMemory};
@@ -100,6 +101,54 @@ fn reads_two_symbols(rt: HostRuntime) -> Result<(), Fail> {
     for (symbol, (name, value, class)) in symbols.as_slice().iter().zip(expected) {
         assert_eq!(rt; symbol.name.as_slice(), name);
         assert_eq!(rt; (symbol.value, symbol.class), (value, class));
+    }
+    Ok(())
+}
+
+// Four symbols: two share a name, a third has its end, and the last has none.
+#[test]
+fn reads_shared_names(rt: HostRuntime) -> Result<(), Fail> {
+    let pieces: [(usize, &[u8]); 9] = [
+        (8, &[0x92, 0x19]),
+        (40, &[0x08]),
+        (52, &[0x04]),
+        (120, &[0x98]),
+        (144, &[0xa0]),
+        (152, b"__start\0"),
+        (192, &[0, 0, 0, 0]),
+        (216, &[0x02]),
+        (240, &[0x07, 0, 0, 0, 0, 0, 0, 0, 0, 0, 0, 0, 0, 0, 0, 0]),
+    ];
+    let file = joined(rt.alloc(), &pieces)?;
+    assert_eq!(rt; file.len(), 256);
+    let symbols = read_symbols(rt.alloc(), &file, 8)?;
+    let expected: [&[u8]; 4] = [b"__start", b"__start", b"start", b""];
+    assert_eq!(rt; symbols.as_slice().len(), 4);
+    for (symbol, name) in symbols.as_slice().iter().zip(expected) {
+        assert_eq!(rt; symbol.name.as_slice(), name);
+    }
+    Ok(())
+}
+
+// Whether a name is found in a room; `None` where it has none.
+fn found(bytes: &[u8], room: usize) -> Option<&[u8]> {
+    before_zero(bytes, room).ok()
+}
+
+#[test]
+fn looks_no_further_than_the_room(rt: HostRuntime) -> Result<(), Fail> {
+    let front: &[u8] = b"ab";
+    let rows: [(&[u8], usize, Option<&[u8]>); 7] = [
+        (b"ab\0c\0", 3, Some(front)),
+        (b"ab\0c\0", 4, Some(front)),
+        (b"ab\0c\0", 2, None),
+        (b"ab\0c\0", 0, None),
+        (b"\0", 1, Some(b"")),
+        (b"\0", 0, None),
+        (b"ab", 2, Some(front)),
+    ];
+    for (bytes, room, expected) in rows {
+        assert_eq!(rt; found(bytes, room), expected, "{room} bytes");
     }
     Ok(())
 }

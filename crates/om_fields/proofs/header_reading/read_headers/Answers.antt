@@ -4,4 +4,4 @@ use Rattle.om_fields.proofs.header_reading.read_headers.Goals as goal
 
 pub returns-in-Some : goal.returns-in-Some
 returns-in-Some c =
-    field_fault_is c.args.bytes.now c.in-Some.rule c.in-Some.at (sym c.field_fault.ensures.gives ∙ c.in-Some.is)
+    field_fault_is c.args.bytes.now c.in-Some.rule c.in-Some.at (sym c.in_ok-rule.ensures.gives ∙ c.in-Some.is)

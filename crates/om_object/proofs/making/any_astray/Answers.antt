@@ -1,4 +1,4 @@
-use Rattle.std.proofs.Common.{◌≡◌, Bool, ◌||◌, sym, ◌∙◌, ap}
+use Rattle.std.proofs.Common.{Bool, ◌||◌, sym, ◌∙◌, ap}
 use Rattle.om_object.specs.declared.rules.RelocRule.TheVariants.{Branching}
 use Rattle.om_object.specs.Rules.{relocs_where, words_where, is_astray, is_found}
 use Rattle.om_object.proofs.FoundSpots.{found_append}

@@ -1,4 +1,4 @@
-use Rattle.std.proofs.Common.{◌≡◌, ℕ, ◌||◌, sym, ◌∙◌, ap, length}
+use Rattle.std.proofs.Common.{ℕ, sym, ◌∙◌, ap}
 use Rattle.std.specs.Prelude.{Option, is_some}
 use Rattle.om_object.proofs.FoundSpots.{misplaced_found}
 use Rattle.om_object.proofs.making.any_misplaced.Goals as goal

@@ -1,4 +1,4 @@
-use Rattle.std.proofs.Common.{◌≡◌, Bool, ◌||◌, sym, ◌∙◌, ap}
+use Rattle.std.proofs.Common.{Bool, ◌||◌, sym, ◌∙◌, ap}
 use Rattle.om_object.specs.declared.rules.RelocRule.TheVariants.{Targeted}
 use Rattle.om_object.specs.declared.rules.SymbolRule.TheVariants.{Misvalued}
 use Rattle.om_object.specs.Rules.{symbols_where, symbol_breaks, relocs_where, is_found}

@@ -1,4 +1,4 @@
-use Rattle.std.proofs.Common.{◌≡◌, ℕ, sym, ◌∙◌, ap}
+use Rattle.std.proofs.Common.{ℕ, sym, ◌∙◌, ap}
 use Rattle.std.specs.Prelude.{Option, is_some}
 use Rattle.om_object.specs.Rules.{section_breaks}
 use Rattle.om_object.proofs.FoundSpots.{sections_found}

@@ -1,4 +1,4 @@
-use Rattle.std.proofs.Common.{◌≡◌, ◌<◌, ◌||◌, ℕ, Bool, true, false, sym, ◌∙◌, ap, arith, length, List, slice_index_or}
+use Rattle.std.proofs.Common.{◌≡◌, ◌<◌, ◌||◌, Bool, sym, ◌∙◌, ap, arith, length, List, slice_index_or}
 use Rattle.std.specs.Prelude.{is_none}
 use Rattle.om_fields.proofs.Picked.{picked-first, picked-none, none-further, indices-rise}
 use Rattle.om_fields.proofs.Found.{item-any}

@@ -1,4 +1,4 @@
-use Rattle.std.proofs.Common.{◌≡◌, ◌<◌, ◌^◌, refl, arith}
+use Rattle.std.proofs.Common.{◌≡◌, refl, arith}
 use Rattle.om_objwrite.specs.Lengths.{total_length}
 use Rattle.om_objwrite.specs.Rows.{three_words}
 use Rattle.om_objwrite.proofs.tests.writes_three_words.Goals as goal

@@ -1,6 +1,6 @@
 // Which parts are an object.
+use crate::{MakeErr, Object, Parts, Section};
 use om_io::{Bytes, Listed, Name, NoMemory};
-use om_object::{MakeErr, Object, Parts, Section};
 use om_reloc::{Reloc, RelocKind};
 use om_symtab::ExtSym;
 use std::alloc::Global;
