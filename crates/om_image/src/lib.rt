@@ -1,0 +1,8 @@
+// Images of programs for Alpha, with the map that says where each word, table and region of the source went.
+#![tactic(auto)]
+
+mod image;
+mod map;
+
+pub use image::Image;
+pub use map::{Map, MapObj, MapRegion, MapTable, MapWord, Place, Region, Target};
