@@ -1,0 +1,6 @@
+pub mod Layout
+pub mod Written
+pub mod MapFields
+pub mod Rules
+pub mod Valid
+pub mod Rows

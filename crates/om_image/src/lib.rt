@@ -3,6 +3,7 @@
 
 mod image;
 mod map;
+mod part;
 
 pub use image::Image;
 pub use map::{Map, MapObj, MapRegion, MapTable, MapWord, Place, Region, Target};
