@@ -8,7 +8,7 @@ use Rattle.om_fields.specs.RowOne.{row_one}
 use Rattle.om_image.specs.declared.image.Image.{Image}
 use Rattle.om_image.specs.declared.map.Region.TheVariants.{Sec, Common}
 use Rattle.om_image.specs.declared.map.Target.TheVariants.{Num, Ptr, Code}
-use Rattle.om_image.specs.Written.{file_of, image_headers, image_body, map_bytes, map_head, key_bytes}
+use Rattle.om_image.specs.Written.{file_of, image_headers, image_body, map_bytes, map_head, key_bytes, object_bytes, table_bytes, slot_bytes, region_bytes, source_bytes}
 use Rattle.om_image.specs.Rules.{image_rules, image_of}
 
 -- `lda r0,1(r31)`, `lda r16,7(r31)` and `callsys`, which end with the status 7; all words are kept, and the one table is empty
@@ -31,7 +31,7 @@ exit_seven = record {
 }
 
 pub row_length : length (file_of exit_seven) ≡ 456
-unfolding file_of image_headers image_body file_header optional_header section_header section_place map_bytes map_head
+unfolding file_of image_headers image_body file_header optional_header section_header section_place map_bytes map_head object_bytes table_bytes source_bytes
 row_length = refl
 
 -- the map: one object of three words with table 0, which starts at 1_4000_0000 and has no slot, and three kept words
@@ -43,15 +43,15 @@ pub row_map : bytes_at (file_of exit_seven) 384 72
     ++ (0x01 ∷ 0x00 ∷ 0x1f ∷ 0x20 ∷ 0 ∷ 0 ∷ 0 ∷ 0x80 ∷ [])
     ++ (0x07 ∷ 0x00 ∷ 0x1f ∷ 0x22 ∷ 1 ∷ 0 ∷ 0 ∷ 0x80 ∷ [])
     ++ (0x83 ∷ 0x00 ∷ 0x00 ∷ 0x00 ∷ 2 ∷ 0 ∷ 0 ∷ 0x80 ∷ [])
-unfolding file_of image_headers image_body file_header optional_header section_header section_place map_bytes map_head
+unfolding file_of image_headers image_body file_header optional_header section_header section_place map_bytes map_head object_bytes table_bytes source_bytes
 row_map = refl
 
 pub row_accepted : first_fault image_rules (file_of exit_seven) ≡ None
-unfolding file_of image_headers image_body file_header optional_header section_header section_place map_bytes map_head instr_of memory_at branch_at jump_at misc_at move_at operate_at operand_at fixed_at
+unfolding file_of image_headers image_body file_header optional_header section_header section_place map_bytes map_head object_bytes table_bytes source_bytes instr_of memory_at branch_at jump_at misc_at move_at operate_at operand_at fixed_at
 row_accepted = refl
 
 pub row_read_back : image_of (file_of exit_seven) ≡ exit_seven
-unfolding file_of image_headers image_body file_header optional_header section_header section_place map_bytes map_head
+unfolding file_of image_headers image_body file_header optional_header section_header section_place map_bytes map_head object_bytes table_bytes source_bytes
 row_read_back = refl
 
 -- an image with data, and a map with all kinds of slots and regions, and a word that is gone
@@ -75,11 +75,11 @@ with_data = record {
 }
 
 pub row_data_accepted : first_fault image_rules (file_of with_data) ≡ None
-unfolding file_of image_headers image_body file_header optional_header section_header section_place map_bytes map_head key_bytes instr_of memory_at branch_at jump_at misc_at move_at operate_at operand_at fixed_at
+unfolding file_of image_headers image_body file_header optional_header section_header section_place map_bytes map_head key_bytes object_bytes table_bytes slot_bytes region_bytes source_bytes instr_of memory_at branch_at jump_at misc_at move_at operate_at operand_at fixed_at
 row_data_accepted = refl
 
 pub row_data_read_back : image_of (file_of with_data) ≡ with_data
-unfolding file_of image_headers image_body file_header optional_header section_header section_place map_bytes map_head key_bytes
+unfolding file_of image_headers image_body file_header optional_header section_header section_place map_bytes map_head key_bytes object_bytes table_bytes slot_bytes region_bytes source_bytes
 row_data_read_back = refl
 
 -- an object file has one section
@@ -92,20 +92,20 @@ set_bytes file at (x ∷ xs) = set_bytes (slice_set file at x) (at + 1) xs
 
 -- no entry
 pub row_no_entry : first_fault image_rules (set_bytes (file_of exit_seven) 56 (0 ∷ 0 ∷ 0 ∷ 0 ∷ 0 ∷ 0 ∷ 0 ∷ 0 ∷ [])) ≡ Some (7, 56)
-unfolding file_of image_headers image_body file_header optional_header section_header section_place map_bytes map_head
+unfolding file_of image_headers image_body file_header optional_header section_header section_place map_bytes map_head object_bytes table_bytes source_bytes
 row_no_entry = refl
 
 -- a byte less of the map, and none of it
 pub row_cut : first_fault image_rules (take 455 (file_of exit_seven)) ≡ Some (5, 296)
-unfolding file_of image_headers image_body file_header optional_header section_header section_place map_bytes map_head
+unfolding file_of image_headers image_body file_header optional_header section_header section_place map_bytes map_head object_bytes table_bytes source_bytes
 row_cut = refl
 
 -- the end of the text as the position of a kept word
 pub row_position : first_fault image_rules (set_bytes (file_of exit_seven) 452 (3 ∷ [])) ≡ Some (8, 384)
-unfolding file_of image_headers image_body file_header optional_header section_header section_place map_bytes map_head
+unfolding file_of image_headers image_body file_header optional_header section_header section_place map_bytes map_head object_bytes table_bytes source_bytes
 row_position = refl
 
 -- the second word is none of an instruction
 pub row_word : first_fault image_rules (set_bytes (file_of exit_seven) 375 (0x1c ∷ [])) ≡ Some (9, 372)
-unfolding file_of image_headers image_body file_header optional_header section_header section_place map_bytes map_head instr_of memory_at branch_at jump_at misc_at move_at operate_at operand_at fixed_at
+unfolding file_of image_headers image_body file_header optional_header section_header section_place map_bytes map_head object_bytes table_bytes source_bytes instr_of memory_at branch_at jump_at misc_at move_at operate_at operand_at fixed_at
 row_word = refl

@@ -35,18 +35,28 @@ region_key (Sec obj number) = key_bytes 1 obj number
 region_key (Common sym) = key_bytes 2 sym 0
 region_key Stack = key_bytes 4 0 0
 
--- a slot, 24 bytes: a key (kind 0 is a number, 3 code), and the number or the offset
-abbrev pub slot_bytes : Target → List ℕ
-slot_bytes (Num n) = key_bytes 0 0 0 ++ u64_bytes n
-slot_bytes (Ptr region off) = region_key region ++ u64_bytes off
-slot_bytes (Code place) = key_bytes 3 place.obj 0 ++ u64_bytes place.off
+-- a slot's key: kind 0 is a number, 3 code
+abbrev pub slot_key : Target → List ℕ
+slot_key (Num n) = key_bytes 0 0 0
+slot_key (Ptr region off) = region_key region
+slot_key (Code place) = key_bytes 3 place.obj 0
+
+-- its number or its offset
+abbrev pub slot_number : Target → ℕ
+slot_number (Num n) = n
+slot_number (Ptr region off) = off
+slot_number (Code place) = place.off
+
+-- a slot, 24 bytes
+unfoldable pub slot_bytes : Target → List ℕ
+slot_bytes target = slot_key target ++ u64_bytes (slot_number target)
 
 -- an object, 8 bytes: the words of its text, and its table
-abbrev pub object_bytes : MapObj → List ℕ
+unfoldable pub object_bytes : MapObj → List ℕ
 object_bytes o = u32_bytes o.words ++ u32_bytes o.table
 
 -- a table, 16 bytes: its address, how many slots it has, and zero
-abbrev pub table_bytes : MapTable → List ℕ
+unfoldable pub table_bytes : MapTable → List ℕ
 table_bytes t = u64_bytes t.start ++ u32_bytes (length t.slots) ++ u32_bytes 0
 
 -- the slots of a table
@@ -54,7 +64,7 @@ abbrev pub slots_bytes : MapTable → List ℕ
 slots_bytes t = flat_map slot_bytes t.slots
 
 -- a region, 32 bytes: its key, its address and its size
-abbrev pub region_bytes : MapRegion → List ℕ
+unfoldable pub region_bytes : MapRegion → List ℕ
 region_bytes r = region_key r.region ++ u64_bytes r.address ++ u64_bytes r.size
 
 -- bits 30..0 are the position, bit 31 says that the word is kept
@@ -62,7 +72,7 @@ abbrev pub position_bits : MapWord → ℕ
 position_bits w = if w.kept then w.position + 2 ^ 31 else w.position
 
 -- a source word, 8 bytes: the old word, and its position
-abbrev pub source_bytes : MapWord → List ℕ
+unfoldable pub source_bytes : MapWord → List ℕ
 source_bytes w = u32_bytes w.old ++ u32_bytes (position_bits w)
 
 -- the first 8 bytes of a map

@@ -3,7 +3,10 @@
 
 mod image;
 mod map;
+mod map_writing;
 mod part;
+mod writing;
 
 pub use image::Image;
 pub use map::{Map, MapObj, MapRegion, MapTable, MapWord, Place, Region, Target};
+pub use writing::write_image;
