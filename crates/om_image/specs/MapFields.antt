@@ -90,12 +90,13 @@ slot_at b at =
     (Code (code_place (number_at b (at + 4) 4) (number_at b (at + 16) 4)))
     (Ptr (region_at b at) (number_at b (at + 16) 8))
 
+-- a table by the place of its header, the place of its slots, and how many these are
+abbrev pub table_with : List ℕ → ℕ → ℕ → ℕ → MapTable
+table_with b at place n = record { start = number_at b at 8; slots = each (λ j. slot_at b (place + 24 * j)) n }
+
 -- the k-th table
 abbrev pub table_at : List ℕ → ℕ → MapTable
-table_at b k = record {
-  start = number_at b (tables_at b + 16 * k) 8;
-  slots = each (λ j. slot_at b (slots_at b + 24 * slots_before b k + 24 * j)) (slots_of b k);
-}
+table_at b k = table_with b (tables_at b + 16 * k) (slots_at b + 24 * slots_before b k) (slots_of b k)
 
 abbrev pub map_region_at : List ℕ → ℕ → MapRegion
 map_region_at b at = record { region = region_at b at; address = number_at b (at + 16) 8; size = number_at b (at + 24) 8 }
@@ -140,18 +141,25 @@ is_slot kind name number off =
 abbrev pub is_position : ℕ → Bool → ℕ → Bool
 is_position count kept position = nat_lt position (if kept then count else count + 1)
 
+-- a slot, a region and a source word whose fields are as they must be
+abbrev pub is_fine_slot : List ℕ → ℕ → Bool
+is_fine_slot b at =
+    (number_at b (at + 12) 4 == 0)
+    && is_slot (number_at b at 4) (number_at b (at + 4) 4) (number_at b (at + 8) 4) (number_at b (at + 16) 8)
+
+abbrev pub is_fine_region : List ℕ → ℕ → Bool
+is_fine_region b at = (number_at b (at + 12) 4 == 0) && is_region (number_at b at 4) (number_at b (at + 8) 4)
+
+abbrev pub is_fine_word : List ℕ → ℕ → ℕ → Bool
+is_fine_word b at count = is_position count (kept_of (number_at b (at + 4) 4)) (position_of (number_at b (at + 4) 4))
+
 -- the k-th item of a part that begins at a place is as it must be; tables and positions are below a bound
 abbrev pub is_fine : Part → List ℕ → ℕ → ℕ → ℕ → Bool
 is_fine Object b at bound k = nat_lt (number_at b (at + 8 * k + 4) 4) bound
 is_fine Table b at bound k = number_at b (at + 16 * k + 12) 4 == 0
-is_fine Slot b at bound k =
-    (number_at b (at + 24 * k + 12) 4 == 0)
-    && is_slot (number_at b (at + 24 * k) 4) (number_at b (at + 24 * k + 4) 4) (number_at b (at + 24 * k + 8) 4)
-    (number_at b (at + 24 * k + 16) 8)
-is_fine Extent b at bound k =
-    (number_at b (at + 32 * k + 12) 4 == 0) && is_region (number_at b (at + 32 * k) 4) (number_at b (at + 32 * k + 8) 4)
-is_fine Word b at bound k =
-    is_position bound (kept_of (number_at b (at + 8 * k + 4) 4)) (position_of (number_at b (at + 8 * k + 4) 4))
+is_fine Slot b at bound k = is_fine_slot b (at + 24 * k)
+is_fine Extent b at bound k = is_fine_region b (at + 32 * k)
+is_fine Word b at bound k = is_fine_word b (at + 8 * k) bound
 
 -- the bytes of so many items of a part
 abbrev pub extent_of : Part → ℕ → ℕ
@@ -165,17 +173,25 @@ extent_of Word n = 8 * n
 abbrev pub are_fine : Part → List ℕ → ℕ → ℕ → ℕ → Bool
 are_fine part b at bound n = all_below (is_fine part b at bound) n
 
+-- how many words the first objects have
+abbrev pub object_words_below : List ℕ → ℕ → ℕ
+object_words_below b n = sum_below (λ k. number_at b (24 + 8 * k) 4) n
+
 -- how many words the objects have in all
 abbrev pub object_words : List ℕ → ℕ
-object_words b = sum_below (λ k. number_at b (24 + 8 * k) 4) (objects_in b)
+object_words b = object_words_below b (objects_in b)
 
 -- the bytes begin with the mark, and have room for the counts
 abbrev pub is_marked : List ℕ → Bool
 is_marked b = nat_le 24 (length b) && bytes_eq mark (bytes_at b 0 8)
 
--- the tables lie within the bytes, and the parts fill them exactly
+-- the tables lie within the bytes
+abbrev pub holds_tables : List ℕ → Bool
+holds_tables b = nat_le (slots_at b) (length b)
+
+-- the parts fill the bytes exactly
 abbrev pub is_filled : List ℕ → Bool
-is_filled b = nat_le (slots_at b) (length b) && (map_end b == length b)
+is_filled b = map_end b == length b
 
 -- the items of all parts, for an image of so many words
 abbrev pub has_fine_parts : ℕ → List ℕ → Bool
@@ -186,4 +202,5 @@ has_fine_parts count b =
 
 -- the bytes are a map of an image with so many words
 abbrev pub is_map : ℕ → List ℕ → Bool
-is_map count b = is_marked b && is_filled b && (object_words b == words_in b) && has_fine_parts count b
+is_map count b =
+    is_marked b && holds_tables b && is_filled b && (object_words b == words_in b) && has_fine_parts count b

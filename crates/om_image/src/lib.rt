@@ -1,12 +1,17 @@
 // Images of programs for Alpha, with the map that says where each word, table and region of the source went.
 #![tactic(auto)]
 
+mod errors;
 mod image;
 mod map;
+mod map_reading;
+mod map_rules;
 mod map_writing;
 mod part;
+mod shape;
 mod writing;
 
+pub use errors::ImageErr;
 pub use image::Image;
 pub use map::{Map, MapObj, MapRegion, MapTable, MapWord, Place, Region, Target};
 pub use writing::write_image;
