@@ -5,6 +5,7 @@ use Rattle.std.specs.Prelude.{◌&&◌}
 use Rattle.om_image.specs.declared.part.Part.{Part}
 use Rattle.om_image.specs.declared.part.Part.TheVariants.{Object, Table, Slot, Extent, Word}
 use Rattle.om_image.specs.MapFields.{sum_below, all_below, extent_of}
+use Rattle.om_image.proofs.Tests.{both_of}
 
 pub sum_next : (f : ℕ → ℕ) (n : ℕ) → sum_below f (n + 1) ≡ sum_below f n + f n
 sum_next f n = let e : n + 1 ≡ suc n = omega arith in rw e refl
@@ -39,10 +40,6 @@ all_fails test (suc n) i h f = by_index (dec_lt i n) (λ g. all_fails test n i g
     by_index : Dec (i < n) → (i < n → all_below test n ≡ false) → (all_below test n && test n) ≡ false
     by_index (yes g) ih = and_false (all_below test n) (test n) (ih g)
     by_index (no g) ih = let e : n ≡ i = omega arith in and_fails (all_below test n) (test n) (ap test e ∙ f)
-
-both_of : (a b : Bool) → (a && b) ≡ true → (a ≡ true) × (b ≡ true)
-both_of true b h = (refl, h)
-both_of false b h = cc
 
 pub all_each : (test : ℕ → Bool) (n : ℕ) → all_below test n ≡ true → (j : ℕ) → j < n → test j ≡ true
 all_each test zero h j b = absurd (omega arith)

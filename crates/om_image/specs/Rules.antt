@@ -1,7 +1,7 @@
 -- The image that a file holds, and the rules on the files of images, each as the places where it is broken: byte offsets in
 -- the file. The headers are those of the ECOFF object format, with the entry at 32 and the GP value at 72 of the optional
 -- header; the sections are `.text`, `.data`, `.bss` and `.ommap`.
-use Rattle.std.specs.Prelude.{ℕ, zero, suc, ◌+◌, ◌*◌, ◌/◌, ◌%◌, Bool, false, not, ◌&&◌, ◌||◌, ◌==◌, if◌then◌else◌, nat_lt, nat_le, is_none, List, [], ◌∷◌, length, bytes_eq}
+use Rattle.std.specs.Prelude.{ℕ, zero, suc, ◌+◌, ◌*◌, ◌/◌, ◌%◌, Bool, false, not, ◌&&◌, ◌||◌, ◌==◌, if◌then◌else◌, nat_lt, nat_le, is_none, List, [], ◌∷◌, ◌++◌, length, bytes_eq}
 use Rattle.om_fields.specs.Bytes.{words_at}
 use Rattle.om_fields.specs.Places.{number_at, bytes_at, picked, place_if, is_past}
 use Rattle.om_fields.specs.Rules.{Rule}
@@ -50,10 +50,14 @@ abbrev pub address_of : List ℕ → ℕ → ℕ
 address_of file k =
     if k == 0 then text_base else if k == 1 then data_base else if k == 2 then data_base + section_size file 1 else 0
 
--- the sizes that are too large or uneven: the text's is a multiple of 4; the data's is tested with that of `.bss`
+-- a size that is no text's
+abbrev pub is_uneven : ℕ → Bool
+is_uneven size = not (size % 4 == 0) || nat_lt text_limit size
+
+-- the sizes that are too large or uneven: that of the data is tested together with that of `.bss`
 abbrev pub is_oversized : List ℕ → ℕ → Bool
 is_oversized file k =
-    if k == 0 then not (section_size file 0 % 4 == 0) || nat_lt text_limit (section_size file 0)
+    if k == 0 then is_uneven (section_size file 0)
     else (k == 1) && nat_lt data_limit (section_size file 1 + section_size file 2)
 
 -- `.bss` has no bytes in the file
@@ -105,11 +109,13 @@ abbrev pub rule_9 : List ℕ → List ℕ
 rule_9 file =
     picked (is_unreadable (section_bytes file 0)) (λ k. section_place file 0 + 4 * k) (section_size file 0 / 4)
 
--- all rules on the files of images
+-- the rules on the headers, and those on the rest
 abbrev pub head_rules : List (Rule (List ℕ))
 head_rules = (1, rule_1) ∷ (2, rule_2) ∷ (3, rule_3) ∷ (4, rule_4) ∷ []
 
+abbrev pub body_rules : List (Rule (List ℕ))
+body_rules = (5, rule_5) ∷ (6, rule_6) ∷ (7, rule_7) ∷ (8, rule_8) ∷ (9, rule_9) ∷ []
+
+-- all rules on the files of images
 abbrev pub image_rules : List (Rule (List ℕ))
-image_rules =
-    (1, rule_1) ∷ (2, rule_2) ∷ (3, rule_3) ∷ (4, rule_4) ∷ (5, rule_5) ∷ (6, rule_6) ∷ (7, rule_7) ∷ (8, rule_8) ∷ (9, rule_9)
-    ∷ []
+image_rules = head_rules ++ body_rules

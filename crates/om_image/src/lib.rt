@@ -2,16 +2,19 @@
 #![tactic(auto)]
 
 mod errors;
+mod head_rules;
 mod image;
 mod map;
 mod map_reading;
 mod map_rules;
 mod map_writing;
 mod part;
+mod reading;
 mod shape;
 mod writing;
 
 pub use errors::ImageErr;
 pub use image::Image;
 pub use map::{Map, MapObj, MapRegion, MapTable, MapWord, Place, Region, Target};
+pub use reading::read_image;
 pub use writing::write_image;
