@@ -18,7 +18,7 @@ pub next_item : {X : Type 0} (f : ℕ → X) (xs ys : List X) (x : X) (n : ℕ) 
 next_item {X} f xs ys x n new so_far is =
     new ∙ ap (λ (zs : List X). zs ++ x ∷ []) so_far ∙ ap (λ (y : X). each f n ++ y ∷ []) is ∙ sym (each-snoc f n)
 
-same_map : (os ps : List MapObj) (ts us : List MapTable) (rs qs : List MapRegion) (ws vs : List MapWord) → os ≡ ps → ts ≡ us → rs ≡ qs → ws ≡ vs
+pub same_map : (os ps : List MapObj) (ts us : List MapTable) (rs qs : List MapRegion) (ws vs : List MapWord) → os ≡ ps → ts ≡ us → rs ≡ qs → ws ≡ vs
     → (let m : Map = record { objects = os; tables = ts; regions = rs; words = ws } in
     let n : Map = record { objects = ps; tables = us; regions = qs; words = vs } in m ≡ n)
 same_map os ps ts us rs qs ws vs ho ht hr hw = cc

@@ -5,3 +5,7 @@ pub mod Items
 pub mod Faults
 pub mod MapFacts
 pub mod Valid
+pub mod Standing
+pub mod Pieces
+pub mod Spelled
+pub mod MapBack

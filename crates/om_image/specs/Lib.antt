@@ -5,4 +5,5 @@ pub mod Rules
 pub mod Valid
 pub mod Shapes
 pub mod Answers
+pub mod RoundTrip
 pub mod Rows

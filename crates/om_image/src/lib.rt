@@ -11,6 +11,7 @@ mod map_writing;
 mod part;
 mod reading;
 mod shape;
+mod widths;
 mod writing;
 
 pub use errors::ImageErr;
