@@ -1,0 +1,11 @@
+pub mod Rounding
+pub mod Tests
+pub mod Below
+pub mod Items
+pub mod Faults
+pub mod MapFacts
+pub mod Valid
+pub mod Standing
+pub mod Pieces
+pub mod Spelled
+pub mod MapBack
