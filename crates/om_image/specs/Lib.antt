@@ -4,3 +4,8 @@ pub mod MapFields
 pub mod Rules
 pub mod Valid
 pub mod Rows
+pub mod NumState
+pub mod NumAccess
+pub mod NumStep
+pub mod NumRun
+pub mod NumRows
