@@ -7,3 +7,8 @@ pub mod Shapes
 pub mod Answers
 pub mod RoundTrip
 pub mod Rows
+pub mod NumState
+pub mod NumAccess
+pub mod NumStep
+pub mod NumRun
+pub mod NumRows
