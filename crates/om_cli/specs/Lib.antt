@@ -15,3 +15,4 @@ pub mod Linking
 pub mod LinkAnswers
 pub mod Answers
 pub mod RunStops
+pub mod RunAnswers

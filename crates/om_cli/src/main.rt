@@ -9,6 +9,7 @@ mod linking;
 mod obeying;
 mod report;
 mod run_stop;
+mod running;
 mod stopping;
 #[cfg(test)]
 mod tests;

@@ -7,7 +7,7 @@ ghost use Rattle.om_image.specs.Rules.{section_address as address_at, section_si
 ghost use Rattle.om_image.specs.declared.part.HeadRule.TheVariants.{Named, Inside, Placed};
 
 use crate::part::HeadRule;
-use om_fields::{is_past, section_count, u16_at, u64_at};
+use om_fields::{is_past, u16_at, u64_at};
 
 // The place of a section's header in a file.
 const HEADS: usize = 104;
@@ -180,6 +180,15 @@ fn other_header(bytes: &[u8]) -> Option<u64>
         return Some(20);
     }
     None
+}
+
+// How many sections the file header counts.
+fn section_count(bytes: &[u8]) -> usize
+    requires { 24 ≤ length bytes.now }
+    ensures gives { result ≡ count_of bytes.now }
+    ensures small { result < 65536 }
+{
+    usize::from(u16_at(bytes, 2))
 }
 
 // Rule 3: too short for the section headers.
