@@ -1,0 +1,3 @@
+pub mod Ranges
+pub mod Starting
+pub mod Taking
