@@ -1,3 +1,4 @@
 pub mod Ranges
 pub mod Starting
 pub mod Taking
+pub mod Calling
