@@ -1,0 +1,4 @@
+pub mod Ranges
+pub mod Starting
+pub mod Taking
+pub mod Calling

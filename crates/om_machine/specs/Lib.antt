@@ -1,0 +1,6 @@
+pub mod Mapped
+pub mod Memory
+pub mod View
+pub mod Actions
+pub mod Streams
+pub mod Calls
