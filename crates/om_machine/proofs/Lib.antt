@@ -2,3 +2,4 @@ pub mod Ranges
 pub mod Starting
 pub mod Taking
 pub mod Calling
+pub mod Fronts
