@@ -10,3 +10,4 @@ pub mod Refusing
 pub mod Stopped
 pub mod Asking
 pub mod Pieces
+pub mod Loads

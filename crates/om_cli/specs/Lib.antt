@@ -16,3 +16,4 @@ pub mod LinkAnswers
 pub mod Answers
 pub mod RunStops
 pub mod RunAnswers
+pub mod Loading

@@ -6,6 +6,7 @@ mod arguments;
 mod image;
 mod lines;
 mod linking;
+mod loading;
 mod obeying;
 mod report;
 mod run_stop;
