@@ -9,3 +9,4 @@ pub mod Standing
 pub mod Pieces
 pub mod Spelled
 pub mod MapBack
+pub mod FileBack
