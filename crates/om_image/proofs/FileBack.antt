@@ -24,7 +24,7 @@ use Rattle.om_image.specs.Rules.{section_address, section_size, section_place, s
 use Rattle.om_image.specs.Valid.{IsMap, IsValidImage}
 use Rattle.om_image.specs.RoundTrip.{HasWidths, ReadsBack, WrittenIsRead}
 use Rattle.om_image.proofs.Rounding.{rounded_above, rounded_below}
-use Rattle.om_image.proofs.Tests.{neither, not_true, is_eq, is_not_lt}
+use Rattle.om_image.proofs.Deciding.{neither, not_true, is_eq, is_not_lt}
 use Rattle.om_image.proofs.Standing.{IsAt, whole, first_in, second_in, as_piece, at_place, number_in, bytes_in, inside}
 use Rattle.om_image.proofs.Pieces.{five_in, length_five, six_in, length_six, item_in, picked_nothing}
 use Rattle.om_image.proofs.MapBack.{map_length, map_reads}

@@ -1,5 +1,5 @@
 pub mod Rounding
-pub mod Tests
+pub mod Deciding
 pub mod Below
 pub mod Items
 pub mod Faults
