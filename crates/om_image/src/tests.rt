@@ -1,14 +1,63 @@
 // Images that were worked by hand: what is read of them, and the rules that changes of them break.
 use crate::test_files::{all_kinds, changed, fault, three_words};
-use crate::{Place, Region, Target, read_image, write_image};
+use crate::{Image, Place, Region, Target, read_image, write_image};
 use om_fields::push_zeros;
+use om_io::NoMemory;
+use std::alloc::Global;
+use std::process::Abort;
 use std::test::Fail;
+
+// Two bytes that are changed, and what the reader then names.
+type Case = ((usize, u8), (usize, u8), Option<(u8, u64)>);
+
+// Each case changes the file by itself.
+fn answers(rt: &impl Abort, alloc: Global, file: &mut Vec<u8>, cases: &[Case]) {
+    for (first, second, expected) in cases {
+        let found = changed(alloc, file, *first, *second);
+        assert_eq!(rt; found, *expected, "bytes {} and {}", first.0, second.0);
+    }
+}
+
+// The source words of an image.
+fn words_of(alloc: Global, image: &Image) -> Result<Vec<(u32, u32, bool)>, NoMemory> {
+    let mut words = Vec::new(alloc);
+    for word in image.map.words.as_slice() {
+        words.push((word.old, word.position, word.kept))?;
+    }
+    Ok(words)
+}
+
+// Its slots, table by table.
+fn slots_of(alloc: Global, image: &Image) -> Result<Vec<Target>, NoMemory> {
+    let mut slots = Vec::new(alloc);
+    for table in image.map.tables.as_slice() {
+        slots.extend_from_slice(table.slots.as_slice())?;
+    }
+    Ok(slots)
+}
+
+// Its regions.
+fn regions_of(alloc: Global, image: &Image) -> Result<Vec<(Region, u64, u64)>, NoMemory> {
+    let mut regions = Vec::new(alloc);
+    for region in image.map.regions.as_slice() {
+        regions.push((region.region, region.address, region.size))?;
+    }
+    Ok(regions)
+}
+
+// What is read of a file is written as that file.
+fn is_written_back(rt: &impl Abort, alloc: Global, file: &[u8]) -> Result<Image, Fail> {
+    let image = read_image(alloc, file)?;
+    let again = write_image(alloc, &image)?;
+    assert_eq!(rt; again.as_slice(), file);
+    Ok(image)
+}
 
 #[test]
 fn reads_and_writes_three_words(rt: HostRuntime) -> Result<(), Fail> {
     let file = three_words(rt.alloc())?;
     assert_eq!(rt; file.len(), 456);
-    let image = read_image(rt.alloc(), &file)?;
+    let image = is_written_back(&rt, rt.alloc(), &file)?;
     assert_eq!(rt;
         (image.entry, image.gp, image.bss),
         (0x1_2000_0000, 0x1_4000_8000, 0)
@@ -17,25 +66,14 @@ fn reads_and_writes_three_words(rt: HostRuntime) -> Result<(), Fail> {
         image.text.as_slice(),
         [0x201f_0001, 0x221f_0007, 0x83].as_slice()
     );
-    assert_eq!(rt; image.bytes.as_slice().len(), 0);
-    assert_eq!(rt; image.map.regions.as_slice().len(), 0);
-    for object in image.map.objects.as_slice() {
-        assert_eq!(rt; (object.words, object.table), (3, 0));
-    }
-    for table in image.map.tables.as_slice() {
-        assert_eq!(rt;
-            (table.start, table.slots.as_slice().len()),
-            (0x1_4000_0000, 0)
-        );
-    }
-    let mut position = 0;
-    for word in image.map.words.as_slice() {
-        assert_eq!(rt; (word.position, word.kept), (position, true));
-        position = position.saturating_add(1);
-    }
-    assert_eq!(rt; position, 3);
-    let again = write_image(rt.alloc(), &image)?;
-    assert_eq!(rt; again.as_slice(), file.as_slice());
+    let words = [
+        (0x201f_0001, 0, true),
+        (0x221f_0007, 1, true),
+        (0x83, 2, true),
+    ];
+    assert_eq!(rt; words_of(rt.alloc(), &image)?.as_slice(), words.as_slice());
+    assert_eq!(rt; regions_of(rt.alloc(), &image)?.len(), 0);
+    assert_eq!(rt; slots_of(rt.alloc(), &image)?.len(), 0);
     Ok(())
 }
 
@@ -43,14 +81,14 @@ fn reads_and_writes_three_words(rt: HostRuntime) -> Result<(), Fail> {
 fn reads_and_writes_all_kinds(rt: HostRuntime) -> Result<(), Fail> {
     let file = all_kinds(rt.alloc())?;
     assert_eq!(rt; file.len(), 648);
-    let image = read_image(rt.alloc(), &file)?;
+    let image = is_written_back(&rt, rt.alloc(), &file)?;
     assert_eq!(rt;
         image.bytes.as_slice(),
         [1, 2, 3, 4, 5, 6, 7, 8, 9].as_slice()
     );
     let data = Region::Sec { obj: 1, number: 3 };
     let common = Region::Common { sym: 7 };
-    let expected = [
+    let slots = [
         Target::Num(0x1_2345_6789),
         Target::Ptr {
             region: data,
@@ -62,27 +100,14 @@ fn reads_and_writes_all_kinds(rt: HostRuntime) -> Result<(), Fail> {
         },
         Target::Code(Place { obj: 1, off: 4 }),
     ];
-    let mut slots = Vec::new(rt.alloc());
-    for table in image.map.tables.as_slice() {
-        slots.extend_from_slice(table.slots.as_slice())?;
-    }
-    assert_eq!(rt; slots.as_slice(), expected.as_slice());
-    let mut regions = Vec::new(rt.alloc());
-    for region in image.map.regions.as_slice() {
-        regions.push((region.region, region.address, region.size))?;
-    }
-    let places = [(data, 0x1_4000_0020, 32), (common, 0x1_4000_0040, 16)];
-    assert_eq!(rt; regions.as_slice(), places.as_slice());
-    let mut words = Vec::new(rt.alloc());
-    for word in image.map.words.as_slice() {
-        words.push((word.old, word.position, word.kept))?;
-    }
+    assert_eq!(rt; slots_of(rt.alloc(), &image)?.as_slice(), slots.as_slice());
+    let regions = [(data, 0x1_4000_0020, 32), (common, 0x1_4000_0040, 16)];
     assert_eq!(rt;
-        words.as_slice(),
-        [(0x83, 0, true), (0x2ffe_0000, 1, false)].as_slice()
+        regions_of(rt.alloc(), &image)?.as_slice(),
+        regions.as_slice()
     );
-    let again = write_image(rt.alloc(), &image)?;
-    assert_eq!(rt; again.as_slice(), file.as_slice());
+    let words = [(0x83, 0, true), (0x2ffe_0000, 1, false)];
+    assert_eq!(rt; words_of(rt.alloc(), &image)?.as_slice(), words.as_slice());
     Ok(())
 }
 
@@ -104,62 +129,67 @@ fn names_the_rule_of_a_file_that_is_cut(rt: HostRuntime) -> Result<(), Fail> {
 }
 
 #[test]
-fn names_each_rule_alone(rt: HostRuntime) -> Result<(), Fail> {
-    let mut file = three_words(rt.alloc())?;
-    let cases = [
-        (0, 0x84, (1, 0)),
-        (20, 0x51, (2, 20)),
-        (2, 6, (3, 24)),
-        (2, 3, (4, 2)),
-        (2, 5, (4, 2)),
-        (105, b'x', (4, 104)),
-        (111, 1, (4, 104)),
-        (169, b'x', (4, 168)),
-        (233, b'x', (4, 232)),
-        (297, b'x', (4, 296)),
-        (137, 2, (5, 104)),
-        (136, 0xbd, (5, 104)),
-        (193, 2, (5, 168)),
-        (192, 0xff, (6, 232)),
-        (328, 0x81, (5, 296)),
-        (320, 73, (5, 296)),
-        (120, 4, (6, 104)),
-        (128, 11, (6, 104)),
-        (184, 1, (6, 168)),
-        (263, 1, (6, 168)),
-        (248, 1, (6, 232)),
-        (312, 1, (6, 296)),
-        (56, 1, (7, 56)),
-        (56, 12, (7, 56)),
-        (59, 0x1f, (7, 56)),
-        (320, 71, (8, 384)),
-        (384, 0x6f, (8, 384)),
-        (391, 1, (8, 384)),
-        (392, 2, (8, 384)),
-        (396, 0, (8, 384)),
-        (399, 0xff, (8, 384)),
-        (403, 0xff, (8, 384)),
-        (407, 0xff, (8, 384)),
-        (408, 2, (8, 384)),
-        (412, 1, (8, 384)),
-        (424, 1, (8, 384)),
-        (427, 0xff, (8, 384)),
-        (428, 1, (8, 384)),
-        (452, 3, (8, 384)),
-        (371, 0x1c, (9, 368)),
-        (379, 0x1c, (9, 376)),
+fn names_each_rule_on_headers(rt: HostRuntime) -> Result<(), Fail> {
+    let cases: [Case; 22] = [
+        ((0, 0x84), (0, 0x84), Some((1, 0))),
+        ((20, 0x51), (20, 0x51), Some((2, 20))),
+        ((2, 6), (2, 6), Some((3, 24))),
+        ((2, 3), (2, 3), Some((4, 2))),
+        ((2, 5), (2, 5), Some((4, 2))),
+        ((105, b'x'), (105, b'x'), Some((4, 104))),
+        ((111, 1), (111, 1), Some((4, 104))),
+        ((169, b'x'), (169, b'x'), Some((4, 168))),
+        ((233, b'x'), (233, b'x'), Some((4, 232))),
+        ((297, b'x'), (297, b'x'), Some((4, 296))),
+        ((137, 2), (137, 2), Some((5, 104))),
+        ((136, 0xbd), (136, 0xbd), Some((5, 104))),
+        ((193, 2), (193, 2), Some((5, 168))),
+        ((192, 0xff), (192, 0xff), Some((6, 232))),
+        ((328, 0x81), (328, 0x81), Some((5, 296))),
+        ((320, 73), (320, 73), Some((5, 296))),
+        ((120, 4), (120, 4), Some((6, 104))),
+        ((128, 11), (128, 11), Some((6, 104))),
+        ((184, 1), (184, 1), Some((6, 168))),
+        ((263, 1), (263, 1), Some((6, 168))),
+        ((248, 1), (248, 1), Some((6, 232))),
+        ((312, 1), (312, 1), Some((6, 296))),
     ];
-    for (at, byte, expected) in cases {
-        let found = changed(rt.alloc(), &mut file, (at, byte), (at, byte));
-        assert_eq!(rt; found, Some(expected), "byte {at} as {byte}");
-    }
+    let mut file = three_words(rt.alloc())?;
+    answers(&rt, rt.alloc(), &mut file, &cases);
+    Ok(())
+}
+
+#[test]
+fn names_each_rule_on_the_rest(rt: HostRuntime) -> Result<(), Fail> {
+    let cases: [Case; 19] = [
+        ((56, 1), (56, 1), Some((7, 56))),
+        ((56, 12), (56, 12), Some((7, 56))),
+        ((59, 0x1f), (59, 0x1f), Some((7, 56))),
+        ((320, 71), (320, 71), Some((8, 384))),
+        ((384, 0x6f), (384, 0x6f), Some((8, 384))),
+        ((391, 1), (391, 1), Some((8, 384))),
+        ((392, 2), (392, 2), Some((8, 384))),
+        ((396, 0), (396, 0), Some((8, 384))),
+        ((399, 0xff), (399, 0xff), Some((8, 384))),
+        ((403, 0xff), (403, 0xff), Some((8, 384))),
+        ((407, 0xff), (407, 0xff), Some((8, 384))),
+        ((408, 2), (408, 2), Some((8, 384))),
+        ((412, 1), (412, 1), Some((8, 384))),
+        ((424, 1), (424, 1), Some((8, 384))),
+        ((427, 0xff), (427, 0xff), Some((8, 384))),
+        ((428, 1), (428, 1), Some((8, 384))),
+        ((452, 3), (452, 3), Some((8, 384))),
+        ((371, 0x1c), (371, 0x1c), Some((9, 368))),
+        ((379, 0x1c), (379, 0x1c), Some((9, 376))),
+    ];
+    let mut file = three_words(rt.alloc())?;
+    answers(&rt, rt.alloc(), &mut file, &cases);
     Ok(())
 }
 
 #[test]
 fn names_the_least_of_two(rt: HostRuntime) -> Result<(), Fail> {
-    let mut file = three_words(rt.alloc())?;
-    let cases = [
+    let cases: [Case; 19] = [
         // one rule at two places
         ((169, b'x'), (297, b'x'), Some((4, 168))),
         ((137, 2), (328, 0x81), Some((5, 104))),
@@ -187,19 +217,16 @@ fn names_the_least_of_two(rt: HostRuntime) -> Result<(), Fail> {
         ((452, 3), (455, 0), None),
         ((452, 4), (455, 0), Some((8, 384))),
     ];
-    for (first, second, expected) in cases {
-        let found = changed(rt.alloc(), &mut file, first, second);
-        assert_eq!(rt; found, expected, "bytes {} and {}", first.0, second.0);
-    }
+    let mut file = three_words(rt.alloc())?;
+    answers(&rt, rt.alloc(), &mut file, &cases);
     Ok(())
 }
 
+// A number's name, section and zero; a pointer's kinds, sections and zeros; a code's section, zero and offset; a region's kinds,
+// sections and zeros; a table's number, and a position.
 #[test]
 fn names_the_map_of_other_kinds(rt: HostRuntime) -> Result<(), Fail> {
-    let mut file = all_kinds(rt.alloc())?;
-    // a number's name, section and zero; a pointer's kinds, sections and zeros; a code's section, zero and offset; a region's
-    // kinds, sections and zeros; a table's number, and a position
-    let cases = [
+    let bytes: [(usize, u8); 24] = [
         (428, 2),
         (472, 4),
         (476, 1),
@@ -225,10 +252,14 @@ fn names_the_map_of_other_kinds(rt: HostRuntime) -> Result<(), Fail> {
         (644, 2),
         (636, 1),
     ];
-    assert_eq!(rt; fault(rt.alloc(), &file), None);
-    for (at, byte) in cases {
-        let found = changed(rt.alloc(), &mut file, (at, byte), (at, byte));
-        assert_eq!(rt; found, Some((8, 400)), "byte {at} as {byte}");
+    let mut file = all_kinds(rt.alloc())?;
+    for change in bytes {
+        answers(
+            &rt,
+            rt.alloc(),
+            &mut file,
+            &[(change, change, Some((8, 400)))],
+        );
     }
     Ok(())
 }
