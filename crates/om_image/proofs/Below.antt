@@ -5,7 +5,7 @@ use Rattle.std.specs.Prelude.{◌&&◌}
 use Rattle.om_image.specs.declared.part.Part.{Part}
 use Rattle.om_image.specs.declared.part.Part.TheVariants.{Object, Table, Slot, Extent, Word}
 use Rattle.om_image.specs.MapFields.{sum_below, all_below, extent_of}
-use Rattle.om_image.proofs.Tests.{both_of}
+use Rattle.om_image.proofs.Deciding.{both_of}
 
 pub sum_next : (f : ℕ → ℕ) (n : ℕ) → sum_below f (n + 1) ≡ sum_below f n + f n
 sum_next f n = let e : n + 1 ≡ suc n = omega arith in rw e refl

@@ -1,5 +1,5 @@
 pub mod Rounding
-pub mod Tests
+pub mod Deciding
 pub mod Below
 pub mod Items
 pub mod Faults
@@ -9,3 +9,4 @@ pub mod Standing
 pub mod Pieces
 pub mod Spelled
 pub mod MapBack
+pub mod FileBack

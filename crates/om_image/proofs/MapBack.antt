@@ -19,7 +19,7 @@ use Rattle.om_image.specs.Written.{u32_bytes, mark, map_head, map_bytes, map_siz
 use Rattle.om_image.specs.MapFields.{sum_below, objects_in, tables_in, regions_in, words_in, tables_at, slots_at, slots_of, slots_before, slots_in, regions_at, words_at, map_end, object_at, slot_at, table_with, table_at, map_region_at, source_at, map_of, is_fine_slot, is_fine, are_fine, object_words, is_marked, holds_tables, is_filled, has_fine_parts, is_map}
 use Rattle.om_image.specs.Valid.{IsSlot, IsInMap, IsMap}
 use Rattle.om_image.specs.RoundTrip.{HasTargetWidths, HasObjWidths, HasTableWidths, HasExtentWidths, HasMapWidths}
-use Rattle.om_image.proofs.Tests.{both, is_eq, is_lt, is_le}
+use Rattle.om_image.proofs.Deciding.{both, is_eq, is_lt, is_le}
 use Rattle.om_image.proofs.Below.{all_true, sum_next}
 use Rattle.om_image.proofs.Valid.{sum_each}
 use Rattle.om_image.proofs.Items.{same_map}

@@ -17,7 +17,7 @@ use Rattle.om_image.specs.Written.{u64_bytes, key_bytes, region_key, slot_key, s
 use Rattle.om_image.specs.MapFields.{object_at, region_by, region_at, target_by, code_place, slot_at, map_region_at, source_at, position_of, kept_of, is_region, is_slot, is_fine_slot, is_fine_region, is_fine_word, is_position}
 use Rattle.om_image.specs.Valid.{IsInMap, IsSlot}
 use Rattle.om_image.specs.RoundTrip.{HasRegionWidths, HasTargetWidths, HasObjWidths, HasExtentWidths}
-use Rattle.om_image.proofs.Tests.{is_eq, is_lt}
+use Rattle.om_image.proofs.Deciding.{is_eq, is_lt}
 use Rattle.om_image.proofs.Standing.{IsAt, first_in, second_in, number_in, byte_in}
 
 -- ---- objects and tables

@@ -24,7 +24,7 @@ use Rattle.om_image.specs.Rules.{section_size, section_place, section_bytes, bre
 use Rattle.om_image.specs.Shapes.{IsReadable}
 use Rattle.om_image.specs.Valid.{IsInMap, IsSlot, IsMap, IsValidImage}
 use Rattle.om_image.proofs.Below.{all_each, sum_above}
-use Rattle.om_image.proofs.Tests.{both_of, neither_of, not_false, lt_of, not_lt_of, le_of, eq_of}
+use Rattle.om_image.proofs.Deciding.{both_of, neither_of, not_false, lt_of, not_lt_of, le_of, eq_of}
 use Rattle.om_image.proofs.MapFacts.{MapFacts, map_facts}
 
 -- ---- lists of what stands at each index

@@ -10,7 +10,12 @@ mod map_rules;
 mod map_writing;
 mod part;
 mod reading;
+mod round_trip;
 mod shape;
+#[cfg(test)]
+mod test_files;
+#[cfg(test)]
+mod tests;
 mod widths;
 mod writing;
 
@@ -18,4 +23,5 @@ pub use errors::ImageErr;
 pub use image::Image;
 pub use map::{Map, MapObj, MapRegion, MapTable, MapWord, Place, Region, Target};
 pub use reading::read_image;
+pub use round_trip::written_is_read;
 pub use writing::write_image;

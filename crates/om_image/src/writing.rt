@@ -4,9 +4,11 @@ ghost use Rattle.om_fields.specs.Bytes.{Grows};
 ghost use Rattle.om_fields.specs.Places.{round_up};
 ghost use Rattle.om_image.specs.Written.{data_place as data_start, map_place as map_start, named_place as named, image_headers, image_body, file_of};
 ghost use Rattle.om_image.specs.Valid.{IsValidImage};
+ghost use Rattle.om_image.specs.RoundTrip.{ReadsBack};
 
 use crate::image::Image;
 use crate::map_writing::{map_size, push_map};
+use crate::widths::image_fits;
 use om_fields::{
     push_file_header, push_optional_header, push_section_header, push_words, push_zeros,
 };
@@ -98,13 +100,9 @@ fn push_body(out: &mut Vec<u8>, text: &[u32], bytes: &[u8]) -> Result<(), NoMemo
     Ok(())
 }
 
-/// The file of a valid image, in the ECOFF object format: the headers, with the sections `.text`, `.data`, `.bss` and `.ommap`;
-/// then the words, the data's bytes and the map, each at the next multiple of 16. A section without bytes has offset 0; the
-/// physical addresses and the fields that are not named are 0.
-///
-/// It takes memory once, for the file, and time linear in it. `NoMemory` says nothing of the image.
+// The file of a valid image. Memory is taken once, for the file.
 #[tactic(auto, unfolding(crate::specs::Written::file_of))]
-pub fn write_image(alloc: Global, i: &Image) -> Result<Bytes, NoMemory>
+fn file_bytes(alloc: Global, i: &Image) -> Result<Bytes, NoMemory>
     requires { IsValidImage i.now }
     ensures { IfOk result (λ file. file ≡ file_of i.now) }
 {
@@ -118,4 +116,19 @@ pub fn write_image(alloc: Global, i: &Image) -> Result<Bytes, NoMemory>
     push_body(&mut out, text, bytes)?;
     push_map(&mut out, &i.map)?;
     Ok(Bytes::from_vec(out))
+}
+
+/// The file of a valid image, in the ECOFF object format: the headers, with the sections `.text`, `.data`, `.bss` and `.ommap`;
+/// then the words, the data's bytes and the map, each at the next multiple of 16. A section without bytes has offset 0; the
+/// physical addresses and the fields that are not named are 0.
+///
+/// The file breaks no rule of images, and what is read of it is the image. It takes memory once, for the file, and time linear
+/// in it. `NoMemory` says nothing of the image.
+pub fn write_image(alloc: Global, i: &Image) -> Result<Bytes, NoMemory>
+    requires { IsValidImage i.now }
+    ensures file { IfOk result (λ file. file ≡ file_of i.now) }
+    ensures read { ReadsBack i.now }
+{
+    image_fits(i);
+    file_bytes(alloc, i)
 }
