@@ -2,3 +2,5 @@ pub mod Ranges
 pub mod Starting
 pub mod Taking
 pub mod Calling
+pub mod Stepping
+pub mod Running
