@@ -3,3 +3,5 @@ pub mod Starting
 pub mod Taking
 pub mod Calling
 pub mod Fronts
+pub mod Stepping
+pub mod Running

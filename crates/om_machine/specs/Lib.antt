@@ -4,3 +4,4 @@ pub mod View
 pub mod Actions
 pub mod Streams
 pub mod Calls
+pub mod Steps

@@ -5,10 +5,17 @@ use Rattle.om_image.specs.NumAccess.{written}
 use Rattle.om_machine.specs.Mapped.{Mapped}
 use Rattle.om_machine.specs.Memory.{memory_of}
 
--- a sink that tells has this text
-abbrev pub Tells : Option (List ℕ) → List ℕ → Type 0
-Tells None text = Unit {0}
-Tells (Some told) text = told ≡ text
+-- whether a sink tells, and what it told last
+abbrev pub Told : Type 0
+Told = Bool × Option (List ℕ)
+
+-- a sink that tells has told this text
+abbrev pub TellsText : Bool → Option (List ℕ) → List ℕ → Type 0
+TellsText true told text = told ≡ Some text
+TellsText false told text = Unit {0}
+
+abbrev pub Tells : Told → List ℕ → Type 0
+Tells sink text = TellsText sink.0 sink.1 text
 
 -- the first so many bytes of what was left went to an address, and what follows them is left
 pub record TakesFront (old new : Mapped) (address count : ℕ) (bytes : List ℕ) (left : Option (List ℕ)) : Type 0 where

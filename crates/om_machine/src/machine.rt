@@ -1,5 +1,5 @@
 // The machine and its steps.
-ghost use Rattle.std.specs.Prelude.{◌≡◌, ◌≢◌, ◌≤◌, ◌<◌, ◌+◌, ◌-◌, ◌*◌, ◌/◌, ◌%◌, ◌^◌, ◌*ℤ◌, ◌==◌, ℕ, List, [], IsTrue, IsSome, IfOk, OnOk, ◌++◌, ◌∷◌, All, true, false, length, map, slice_index, Option, Some, None, is_some, option_map};
+ghost use Rattle.std.specs.Prelude.{Bool, ◌⊎◌, ◌≡◌, ◌≢◌, ◌≤◌, ◌<◌, ◌+◌, ◌-◌, ◌*◌, ◌/◌, ◌%◌, ◌^◌, ◌*ℤ◌, ◌==◌, ℕ, List, [], IsTrue, IsSome, IfOk, OnOk, ◌++◌, ◌∷◌, All, true, false, length, map, slice_index, Option, Some, None, is_some, option_map};
 ghost use Rattle.om_io.specs.Causes.{Rose};
 ghost use Rattle.om_isa.specs.Registers.{access_of};
 ghost use Rattle.om_isa.specs.SystemCall.{heap_call, read_call, write_call, Takes, Resizes, heap_limit};
@@ -11,24 +11,26 @@ ghost use Rattle.om_image.specs.NumAccess.{size_bytes, is_mapped, bytes_from, si
 ghost use Rattle.om_image.specs.NumStep.{is_text, operand, after, num_start, heap_ask, answers, calls, resized_memory};
 ghost use Rattle.om_image.specs.Valid.{IsValidImage};
 ghost use Rattle.om_machine.specs.Actions.{effect_in, IsDoable};
-ghost use Rattle.om_machine.specs.Calls.{call_in, IsServed, view_bytes, view_room, descriptor_number, IsState, FailsToTake};
+ghost use Rattle.om_machine.specs.Calls.{call_in, IsServed, view_bytes, view_room, descriptor_number, IsState, FailsToTake, CallsTo, IsAnswer, IsTaking, IsPutting};
 ghost use Rattle.om_machine.specs.Memory.{memory_of};
-ghost use Rattle.om_machine.specs.Streams.{Puts};
+ghost use Rattle.om_machine.specs.Streams.{Puts, Told};
+ghost use Rattle.om_machine.specs.Steps.{StepsTo, RunsTo, IsCallNext};
 ghost use Rattle.om_machine.specs.View.{HasImage, state_of, end_of, instr_at, view_register, view_load, view_store, view_access, view_jump, view_branch, view_alu, view_effect, view_call, view_step};
 
-use crate::actions::Action;
+use crate::actions::{
+    Action, TEXT_BASE, address_of, displaced_by, extend, in_text, is_aligned, scaled, size_of_op, sum,
+};
+use crate::loading::{first_registers, read_code, set_register};
 use crate::memory::Memory;
 use crate::requests::{Descriptor, Request};
 use crate::streams::{put_all, take_all};
-use om_alpha::{AluOp, Cond, Scale, Size, TrapKind, Width, alu, holds, overflows};
+use om_alpha::{AluOp, Cond, TrapKind, alu, holds, overflows};
 use om_image::Image;
 use om_io::{NoMemory, Sink, Source};
-use om_isa::{Access, BrOp, Disp, Instr, MemOp, Opnd, Reg, access_kind, decode};
+use om_isa::{Access, BrOp, Instr, MemOp, Opnd, Reg, access_kind};
 use std::alloc::Global;
 use std::marker::Model;
 
-const TEXT_BASE: u64 = 0x1_2000_0000;
-const STACK_START: u64 = 0x1_1fff_ffc0;
 const HEAP_BASE: u64 = 0x1_6000_0000;
 const HEAP_LIMIT: u64 = 0x100_0000;
 
@@ -70,7 +72,7 @@ pub struct Machine {
 impl Model for Machine {
     ghost use Rattle.std.specs.Prelude.{◌≤◌, length};
     ghost use Rattle.om_machine.specs.Memory.{memory_of};
-ghost use Rattle.om_machine.specs.Streams.{Puts};
+ghost use Rattle.om_machine.specs.Streams.{Puts, Told};
 ghost use Rattle.om_machine.specs.View.{View};
 
     ghost Value = { View };
@@ -78,147 +80,6 @@ ghost use Rattle.om_machine.specs.View.{View};
     ghost view = { λ m. record { registers = m.registers; pc = m.pc; code = m.code.items; memory = m.memory; end = m.end } };
 
     ghost invariant = { λ m. length m.code.items ≤ 4194304 };
-}
-
-/// The instruction of a word that has one.
-fn decoded(word: u32) -> Instr
-    requires { is_some (instr_of word) ≡ true }
-    ensures { instr_of word ≡ Some result }
-{
-    let Some(instr) = decode(word) else {
-        unreachable!()
-    };
-    instr
-}
-
-fn push_to<T: Drop>(items: &mut Vec<T>, item: T) -> Result<(), NoMemory>
-    ensures { OnOk result (items.new.items ≡ items.old.items ++ item ∷ []) }
-{
-    items.push(item)?;
-    Ok(())
-}
-
-/// Puts the instructions of the words behind those that are there.
-fn push_code(code: &mut Vec<Instr>, text: &[u32]) -> Result<(), NoMemory>
-    requires { All (λ w. is_some (instr_of w) ≡ true) text.now }
-    ensures { OnOk result (map Some code.new.items ≡ map Some code.old.items ++ map instr_of text.now) }
-{
-    // Names the type of an operand, which the check of this loop must be told.
-    let _operand: Option<Opnd> = None;
-    for word in text {
-        push_to(code, decoded(*word))?;
-    }
-    Ok(())
-}
-
-/// The instructions of words that all have one.
-fn read_code(alloc: Global, text: &[u32]) -> Result<Vec<Instr>, NoMemory>
-    requires { All (λ w. is_some (instr_of w) ≡ true) text.now }
-    ensures { IfOk result (λ v. map Some v.items ≡ map instr_of text.now) }
-{
-    let mut code = Vec::with_capacity(alloc, text.len())?;
-    push_code(&mut code, text)?;
-    Ok(code)
-}
-
-/// Gives a register a number; what is written to register 31 is lost.
-fn set_register(registers: &mut [u64; 32], r: u8, n: u64)
-    requires { r < 32 }
-    ensures { (x : ℕ) → slice_index registers.new x ≡ with_register (slice_index registers.old) r n x }
-{
-    if r != 31 {
-        registers[r as usize] = n;
-    }
-}
-
-/// The registers at the start of a run.
-fn first_registers(entry: u64, gp: u64) -> [u64; 32]
-    ensures { (r : ℕ) → slice_index result r ≡ with_register (with_register (with_register (λ k. 0) 27 entry) 29 gp) 30 (stack_base + stack_top) r }
-{
-    let mut registers = [0u64; 32];
-    set_register(&mut registers, 27, entry);
-    set_register(&mut registers, 29, gp);
-    set_register(&mut registers, 30, STACK_START);
-    registers
-}
-
-fn in_text(words: usize, address: u64) -> bool
-    requires { words ≤ 4194304 }
-    ensures { result ≡ is_text words address }
-{
-    TEXT_BASE <= address && address < TEXT_BASE + 4 * words as u64
-}
-
-fn sum(n: u64, z: i64) -> u64
-    ensures { result ≡ plus n z }
-{
-    n.wrapping_add(z.cast_unsigned())
-}
-
-fn size_of_op(op: MemOp) -> Size
-    ensures { result ≡ size_of op }
-{
-    match op {
-        MemOp::Lda => Size::Quad,
-        MemOp::Ldah => Size::Quad,
-        MemOp::Ldbu => Size::Byte,
-        MemOp::LdqU => Size::Quad,
-        MemOp::Ldwu => Size::Word,
-        MemOp::Stw => Size::Word,
-        MemOp::Stb => Size::Byte,
-        MemOp::StqU => Size::Quad,
-        MemOp::Ldl => Size::Long,
-        MemOp::Ldq => Size::Quad,
-        MemOp::Stl => Size::Long,
-        MemOp::Stq => Size::Quad,
-    }
-}
-
-fn is_aligned(size: Size, address: u64) -> bool
-    ensures { result ≡ (address % size_bytes size == 0) }
-{
-    match size {
-        Size::Byte => true,
-        Size::Word => address % 2 == 0,
-        Size::Long => address % 4 == 0,
-        Size::Quad => address % 8 == 0,
-    }
-}
-
-fn scaled(op: MemOp, disp: i16) -> i64
-    ensures { result ≡ address_scale op *ℤ disp }
-{
-    match op {
-        MemOp::Ldah => 65536 * i64::from(disp),
-        _ => i64::from(disp),
-    }
-}
-
-fn address_of(op: MemOp, base: u64, disp: i16) -> u64
-    ensures { result ≡ accessed op (plus base disp) }
-{
-    let address = sum(base, i64::from(disp));
-    match op {
-        MemOp::LdqU => address / 8 * 8,
-        MemOp::StqU => address / 8 * 8,
-        _ => address,
-    }
-}
-
-fn extend(op: MemOp, n: u64) -> u64
-    ensures { result ≡ extended op n }
-{
-    match op {
-        MemOp::Ldl => alu(AluOp::Add(Scale::One, Width::Long), n, 0),
-        _ => n,
-    }
-}
-
-fn displaced_by(place: u64, disp: Disp) -> u64
-    ensures { result ≡ displaced place disp }
-{
-    let bytes = i64::from(disp.num()).cast_unsigned().wrapping_mul(4);
-    place.wrapping_add(4).wrapping_add(bytes)
 }
 
 impl Machine {
@@ -456,6 +317,8 @@ impl Machine {
         ensures call { IsTrue result → self.new ≡ self.old }
         ensures callsys { IsTrue result → instr_at self.old.code self.old.pc ≡ Some instr.Callsys }
         ensures running { IsTrue result → self.old.end ≡ None }
+        ensures place { IsTrue result → self.old.pc < 2 ^ 63 }
+        ensures ended { IsSome self.old.end → (self.new ≡ self.old) × (result ≡ false) }
         ensures code { self.new.code ≡ self.old.code }
         ensures size { length self.new.memory.bytes ≡ length self.old.memory.bytes }
     {
@@ -602,9 +465,9 @@ impl Machine {
         requires place { self.old.pc < 2 ^ 63 }
         requires mapped { IsTrue (is_mapped (length self.old.memory.bytes) self.old.memory.heap_size (view_register self.old 17) count) }
         requires fits { view_register self.old 17 + count < 2 ^ 63 }
-        ensures taken { IsTrue result → (s : NumState) (told_out told_err : Option (List ℕ)) → IsState self.old (I.left input.old) told_out told_err s
+        ensures taken { IsTrue result → (s : NumState) (told_out told_err : Told) → IsState self.old (I.left input.old) told_out told_err s
             → IsState self.new (I.left input.new) told_out told_err (calls s (Takes count) (view_register self.old 17)) }
-        ensures failed { result ≡ false → (s : NumState) (told_out told_err : Option (List ℕ)) → IsState self.old (I.left input.old) told_out told_err s
+        ensures failed { result ≡ false → (s : NumState) (told_out told_err : Told) → IsState self.old (I.left input.old) told_out told_err s
             → FailsToTake (Takes count) (view_register self.old 17) s self.new (I.left input.new) told_out told_err }
         ensures rose { result ≡ false → Rose (I.faults input.old) (I.faults input.new) }
         ensures kept { IsTrue result → I.faults input.new ≡ I.faults input.old }
@@ -648,5 +511,148 @@ impl Machine {
             }
             Err(_) => false,
         }
+    }
+
+    /// What a step answers that did not fail.
+    fn answered(&self) -> Step
+        ensures answer { IsAnswer result self.now.end }
+        ensures no_read_fault { result ≢ Step.ReadFault }
+        ensures no_write_fault { result ≢ Step.WriteFault }
+    {
+        match self.end {
+            None => Step::Went,
+            Some(Ending::Exited(status)) => Step::Exit(status),
+            Some(Ending::Trapped(kind, at)) => Step::Trap { kind, at },
+        }
+    }
+
+    /// Does a system call.
+    fn call<I: Source, O: Sink, E: Sink>(
+        &mut self,
+        input: &mut I,
+        out: &mut O,
+        err: &mut E,
+    ) -> Step
+        requires running { self.old.end ≡ None }
+        requires place { self.old.pc < 2 ^ 63 }
+        ensures calls { (s : NumState) (out_tells err_tells : Bool)
+            → IsState self.old (I.left input.old) (out_tells, O.written out.old) (err_tells, E.written err.old) s
+            → CallsTo self.old result s self.new (I.left input.new) (out_tells, O.written out.new) (err_tells, E.written err.new) }
+        ensures answer { IsAnswer result self.new.end }
+        ensures read_fault { result ≡ Step.ReadFault → IsTaking (view_call self.old) × Rose (I.faults input.old) (I.faults input.new) }
+        ensures write_fault { result ≡ Step.WriteFault → (IsPutting 1 (view_call self.old) × Rose (O.faults out.old) (O.faults out.new))
+            ⊎ (IsPutting 2 (view_call self.old) × Rose (E.faults err.old) (E.faults err.new)) }
+        ensures no_read_fault { result ≢ Step.ReadFault → I.faults input.new ≡ I.faults input.old }
+        ensures no_write_fault { result ≢ Step.WriteFault → (O.faults out.new ≡ O.faults out.old) × (E.faults err.new ≡ E.faults err.old) }
+        ensures code { self.new.code ≡ self.old.code }
+        ensures size { length self.new.memory.bytes ≡ length self.old.memory.bytes }
+    {
+        match self.request() {
+            Request::Exit(status) => {
+                self.exit(status);
+                Step::Exit(status)
+            }
+            Request::Answer(v0, a3) => {
+                self.answer(v0, a3);
+                Step::Went
+            }
+            Request::Put(Descriptor::Out, n) => {
+                if self.put(out, n) {
+                    Step::Went
+                } else {
+                    Step::WriteFault
+                }
+            }
+            Request::Put(Descriptor::Err, n) => {
+                if self.put(err, n) {
+                    Step::Went
+                } else {
+                    Step::WriteFault
+                }
+            }
+            Request::Take(n) => {
+                if self.take(input, n) {
+                    Step::Went
+                } else {
+                    Step::ReadFault
+                }
+            }
+            Request::HeapEnd => {
+                let size = self.memory.heap_size();
+                self.answer(HEAP_BASE + size, 0);
+                Step::Went
+            }
+            Request::Resize(size) => {
+                self.resize(size);
+                Step::Went
+            }
+        }
+    }
+
+    /// Takes one step.
+    ///
+    /// From a state of the definition it comes to the definition's next state, which is the one answered. It answers a
+    /// fault only at a system call that takes or puts bytes, where the count of that source or sink rose; then the state
+    /// is as before, but that bytes already taken stand at the front of the range, and a front of the bytes is written.
+    /// It may then be called again. Once the run has ended, each step answers the same and changes nothing.
+    pub fn step<I: Source, O: Sink, E: Sink>(
+        &mut self,
+        input: &mut I,
+        out: &mut O,
+        err: &mut E,
+    ) -> Step
+        ensures steps { (i : Image) (s : NumState) (out_tells err_tells : Bool) → HasImage i self.old
+            → IsState self.old (I.left input.old) (out_tells, O.written out.old) (err_tells, E.written err.old) s
+            → StepsTo i result s self.new (I.left input.new) (out_tells, O.written out.new) (err_tells, E.written err.new) }
+        ensures image { (i : Image) → HasImage i self.old → HasImage i self.new }
+        ensures answer { IsAnswer result self.new.end }
+        ensures ended { IsSome self.old.end → (self.new ≡ self.old) × (input.new ≡ input.old) × (out.new ≡ out.old) × (err.new ≡ err.old) }
+
+        ensures read_fault { result ≡ Step.ReadFault → Rose (I.faults input.old) (I.faults input.new) × IsTaking (view_call self.old) × IsCallNext self.old }
+        ensures write_fault { result ≡ Step.WriteFault → IsCallNext self.old
+            × ((IsPutting 1 (view_call self.old) × Rose (O.faults out.old) (O.faults out.new))
+            ⊎ (IsPutting 2 (view_call self.old) × Rose (E.faults err.old) (E.faults err.new))) }
+        ensures no_read_fault { result ≢ Step.ReadFault → I.faults input.new ≡ I.faults input.old }
+        ensures no_write_fault { result ≢ Step.WriteFault → (O.faults out.new ≡ O.faults out.old) × (E.faults err.new ≡ E.faults err.old) }
+    {
+        if self.plain_step() {
+            self.call(input, out, err)
+        } else {
+            self.answered()
+        }
+    }
+
+    /// Takes steps until the run has ended, so many are taken, or one of them fails.
+    ///
+    /// `Went` says that all are taken and the run has not ended. From a state of the definition the machine comes to the
+    /// definition's state after that many steps, in which an ended run stays; or, after a fault, to what the step that
+    /// failed leaves, and those before it did not fail.
+    pub fn run<I: Source, O: Sink, E: Sink>(
+        &mut self,
+        steps: u64,
+        input: &mut I,
+        out: &mut O,
+        err: &mut E,
+    ) -> Step
+        ensures runs { (i : Image) (s : NumState) (out_tells err_tells : Bool) → HasImage i self.old
+            → IsState self.old (I.left input.old) (out_tells, O.written out.old) (err_tells, E.written err.old) s
+            → RunsTo i steps result s self.new (I.left input.new) (out_tells, O.written out.new) (err_tells, E.written err.new) }
+        ensures image { (i : Image) → HasImage i self.old → HasImage i self.new }
+        ensures answer { IsAnswer result self.new.end }
+        ensures read_fault { result ≡ Step.ReadFault → Rose (I.faults input.old) (I.faults input.new) }
+        ensures write_fault { result ≡ Step.WriteFault → Rose (O.faults out.old) (O.faults out.new) ⊎ Rose (E.faults err.old) (E.faults err.new) }
+        ensures no_read_fault { result ≢ Step.ReadFault → I.faults input.new ≡ I.faults input.old }
+        ensures no_write_fault { result ≢ Step.WriteFault → (O.faults out.new ≡ O.faults out.old) × (E.faults err.new ≡ E.faults err.old) }
+    {
+        for turn in 0..steps {
+            match self.step(input, out, err) {
+                Step::Went => {}
+                Step::Exit(status) => return Step::Exit(status),
+                Step::Trap { kind, at } => return Step::Trap { kind, at },
+                Step::ReadFault => return Step::ReadFault,
+                Step::WriteFault => return Step::WriteFault,
+            }
+        }
+        self.answered()
     }
 }

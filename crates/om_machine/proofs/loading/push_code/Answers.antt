@@ -3,7 +3,7 @@ use Rattle.std.proofs.Math.Seq.{take-suc}
 use Rattle.std.proofs.lemmas.List.{map-append}
 use Rattle.om_isa.specs.declared.instr.Instr.{Instr}
 use Rattle.om_isa.specs.Words.{instr_of}
-use Rattle.om_machine.proofs.machine.push_code.Goals as goal
+use Rattle.om_machine.proofs.loading.push_code.Goals as goal
 
 -- one more word, with its instruction
 grown : (code new : List Instr) (i : Instr) (text : List ℕ) (at : ℕ) (start : List (Option Instr)) → map Some code ≡ start ++ map instr_of (take at text) → new ≡ code ++ i ∷ [] → instr_of (slice_index text at) ≡ Some i → at < length text → map Some new ≡ start ++ map instr_of (take (at + 1) text)

@@ -1,6 +1,6 @@
 use Rattle.std.proofs.Common.{◌≡◌, ◌++◌, map, take, Some}
 use Rattle.om_isa.specs.Words.{instr_of}
-use Rattle.om_machine.proofs.machine.push_code.Given as goal
+use Rattle.om_machine.proofs.loading.push_code.Given as goal
 
 abbrev pub invariant-loop-word : goal.invariant-loop-word
 invariant-loop-word l =

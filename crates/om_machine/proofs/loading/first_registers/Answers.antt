@@ -1,6 +1,6 @@
 use Rattle.std.proofs.Common.{◌≡◌, refl}
 use Rattle.om_machine.proofs.Starting.{no_registers}
-use Rattle.om_machine.proofs.machine.first_registers.Goals as goal
+use Rattle.om_machine.proofs.loading.first_registers.Goals as goal
 
 pub returns : goal.returns
 returns c = λ r. rw (c.set_register-3.ensures r, c.set_register-2.ensures r, c.set_register.ensures r, no_registers r) refl
