@@ -11,3 +11,4 @@ pub mod Stopped
 pub mod Asking
 pub mod Pieces
 pub mod Loads
+pub mod Ran

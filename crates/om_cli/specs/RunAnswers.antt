@@ -3,11 +3,9 @@ use Rattle.std.specs.Prelude.{◌≡◌, ◌≢◌, ◌≤◌, ◌<◌, ◌++◌
 use Rattle.om_fields.specs.Rules.{IsFirstFault}
 use Rattle.om_image.specs.Answers.{IsRead}
 use Rattle.om_image.specs.NumState.{NumState, Exited, Trapped}
-use Rattle.om_isa.specs.Effect.{Calls}
-use Rattle.om_isa.specs.SystemCall.{Call, Puts, Takes}
-use Rattle.om_isa.specs.declared.instr.Instr.{Instr}
+use Rattle.om_isa.specs.SystemCall.{Puts, Takes}
+use Rattle.om_machine.specs.Steps.{IsAtCall}
 use Rattle.om_image.specs.NumRun.{num_run}
-use Rattle.om_image.specs.NumStep.{fetched, effect_at}
 use Rattle.om_image.specs.Rules.{image_rules}
 use Rattle.om_image.specs.declared.image.Image.{Image}
 use Rattle.om_io.specs.Causes.{Rose, raised}
@@ -18,7 +16,7 @@ use Rattle.om_image.specs.declared.errors.ImageErr.{ImageErr}
 use Rattle.om_image.specs.declared.errors.ImageErr.TheVariants as image
 use Rattle.om_cli.specs.Causes.{most_bytes}
 use Rattle.om_cli.specs.RunStops.{RunTold}
-use Rattle.om_cli.specs.World.{Files, Stream, World}
+use Rattle.om_cli.specs.World.{Files, Stream, Streams, World, streams_of}
 use Rattle.om_cli.specs.declared.run_stop.RunStop.{RunStop}
 use Rattle.om_cli.specs.declared.run_stop.RunStop.TheVariants.{Missing, TooLong, Rule, ReadFault, WriteFault, NoMemory, Exit, Trap, Steps}
 
@@ -77,23 +75,15 @@ IsUnread _ name old new = ⊥
 
 -- ---- the run
 
--- the next step of a state is a system call that asks for this
-pub record CallsNext (call : Call) (i : Image) (s : NumState) : Type 0 where
-  pub instr : Instr
-  pub running : s.end ≡ None
-  pub fetched_is : fetched i s ≡ Some instr
-  pub buffer : ℕ
-  pub asks : effect_at i s instr ≡ Calls call buffer
-
--- it takes bytes of the input, or puts bytes on a descriptor
+-- the next step of a state is a system call that takes bytes of the input, or that puts bytes on a descriptor
 abbrev pub TakesNext : Image → NumState → Type 0
-TakesNext i s = (count : ℕ) × CallsNext (Takes count) i s
+TakesNext i s = (count a1 : ℕ) × IsAtCall i s (Takes count) a1
 
 abbrev pub PutsNext : Image → NumState → Type 0
-PutsNext i s = (descriptor : ℕ) × (bytes : List ℕ) × CallsNext (Puts descriptor bytes) i s
+PutsNext i s = (descriptor : ℕ) × (bytes : List ℕ) × (a1 : ℕ) × IsAtCall i s (Puts descriptor bytes) a1
 
 -- the streams stand where a state of a run has them, that began where they stood before
-pub record StandsAt (s : NumState) (old new : World) : Type 0 where
+pub record StandsAt (s : NumState) (old new : Streams) : Type 0 where
   pub input : new.input.told ≡ Some s.input
   pub out : (before : List ℕ) → old.out.told ≡ Some before → new.out.told ≡ Some (before ++ s.out)
   pub err : (before : List ℕ) → old.err.told ≡ Some before → new.err.told ≡ Some (before ++ s.err)
@@ -104,7 +94,7 @@ TookFront written old new =
     (before : List ℕ) → old.told ≡ Some before → (front : List ℕ) × IsFrontOf front written × (new.told ≡ Some (before ++ front))
 
 -- a run was broken off at a step before the last that was allowed: what was written is a front of what the run writes
-pub record BreaksOff (Next : Image → NumState → Type 0) (i : Image) (input : List ℕ) (steps : ℕ) (old new : World) : Type 0 where
+pub record BreaksOff (Next : Image → NumState → Type 0) (i : Image) (input : List ℕ) (steps : ℕ) (old new : Streams) : Type 0 where
   pub done : ℕ
   pub within : done < steps
   pub next : Next i (num_run i input done)
@@ -113,7 +103,7 @@ pub record BreaksOff (Next : Image → NumState → Type 0) (i : Image) (input :
 
 -- a run of an image stopped: its input being told, the streams, the stop and the state after the steps agree; a fault is one of
 -- the outside, at a step that takes or puts bytes
-abbrev pub IsRun : RunStop → Image → ℕ → World → World → Type 0
+abbrev pub IsRun : RunStop → Image → ℕ → Streams → Streams → Type 0
 IsRun (Exit status) i steps old new =
     (input : List ℕ) → old.input.told ≡ Some input →
     StandsAt (num_run i input steps) old new × ((num_run i input steps).end ≡ Some (Exited status))
@@ -131,18 +121,16 @@ IsRun WriteFault i steps old new =
     × ((input : List ℕ) → old.input.told ≡ Some input → BreaksOff PutsNext i input steps old new)
 IsRun _ i steps old new = ⊥
 
--- no stream was used
-pub record IsStill (old new : World) : Type 0 where
-  pub input : new.input ≡ old.input
-  pub out : new.out ≡ old.out
-  pub err : new.err ≡ old.err
+-- an image ran, or there was no memory for it and no stream was used
+abbrev pub RunsOrNoMemory : RunStop → Image → ℕ → Streams → Streams → Type 0
+RunsOrNoMemory stop i steps old new = ((stop ≡ NoMemory) × (new ≡ old)) ⊎ IsRun stop i steps old new
 
 -- why a run stops, or why there is none: the image was not read, or there was no memory to run it, and no stream was used;
 -- or it ran
 abbrev pub IsRunCause : RunStop → List ℕ → ℕ → World → World → Type 0
 IsRunCause stop name steps old new =
-    (IsUnread stop name old.files new.files × IsStill old new)
-    ⊎ ((i : Image) × HoldsImage name old.files i × NoLoadFailed old.files new.files × IsRun stop i steps old new)
+    (IsUnread stop name old.files new.files × (streams_of new ≡ streams_of old))
+    ⊎ ((i : Image) × HoldsImage name old.files i × NoLoadFailed old.files new.files × IsRun stop i steps (streams_of old) (streams_of new))
 
 pub record RunAnswers (steps : ℕ) (name : List ℕ) (old new : World) (status : ℕ) : Type 0 where
   -- one load of the image is asked for and no save, and no file is changed

@@ -20,6 +20,15 @@ pub record Stream : Type 0 where
 abbrev pub stream : Option (List ℕ) → ℕ → Stream
 stream told faults = record { told = told; faults = faults }
 
+-- the streams of a run
+pub record Streams : Type 0 where
+  pub input : Stream
+  pub out : Stream
+  pub err : Stream
+
+abbrev pub streams : Stream → Stream → Stream → Streams
+streams input out err = record { input = input; out = out; err = err }
+
 pub record World : Type 0 where
   pub files : Files
   pub input : Stream
@@ -39,6 +48,9 @@ files_of tells file failed_loads failed_saves last_failed loads_asked saves_aske
 
 abbrev pub world : Files → Stream → Stream → Stream → World
 world files input out err = record { files = files; input = input; out = out; err = err }
+
+abbrev pub streams_of : World → Streams
+streams_of w = streams w.input w.out w.err
 
 -- nothing of the store or the input was asked for, and nothing was put on `out`
 pub record IsUntouched (old new : World) : Type 0 where

@@ -14,6 +14,7 @@ ghost use Rattle.om_cli.specs.declared.stopping.Stop.{Stop};
 
 use crate::linking::link;
 use crate::report::{report, report_not_yet};
+use crate::running::run;
 use om_alpha::Level;
 use om_io::{Sink, Source, Store};
 use om_words::Command;
@@ -148,6 +149,7 @@ pub(crate) fn obey<S: Store, I: Source, O: Sink, E: Sink>(
             out,
             err,
         ),
+        Command::Run { steps, image } => run(alloc, *steps, image.as_str(), store, input, out, err),
         _ => report_not_yet(err),
     }
 }
