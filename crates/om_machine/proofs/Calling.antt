@@ -1,5 +1,5 @@
 -- System calls over states.
-use Rattle.std.proofs.Common.{◌≡◌, ◌≤◌, ◌<◌, ◌⊎◌, ℕ, zero, suc, ◌+◌, ◌-◌, List, [], ◌∷◌, ◌++◌, length, take, drop, Bool, true, false, Option, Some, Result, Ok, Err, refl, ap, sym, subst, ◌∙◌, inl, inr, arith, length-drop, length-take}
+use Rattle.std.proofs.Common.{◌≡◌, ◌≤◌, ◌⊎◌, ℕ, zero, suc, ◌+◌, List, [], ◌∷◌, ◌++◌, length, take, drop, Bool, true, false, Option, Some, Ok, Err, refl, ap, sym, subst, ◌∙◌, inl, inr, arith, length-take}
 use Rattle.std.proofs.lemmas.List.{take-append-drop}
 use Rattle.om_io.specs.Outside.{IsFrontOf}
 use Rattle.om_isa.specs.SystemCall as call
@@ -8,7 +8,7 @@ use Rattle.om_image.specs.NumAccess.{written, bytes_from}
 use Rattle.om_image.specs.NumStep.{answers, calls, takes_to, puts_on}
 use Rattle.om_machine.specs.Mapped.{Mapped}
 use Rattle.om_machine.specs.Memory.{memory_of}
-use Rattle.om_machine.specs.Streams.{Told, Tells, TellsText, Puts, TakesFront, Takes}
+use Rattle.om_machine.specs.Streams.{Told, Tells, TellsText, Puts, Takes}
 use Rattle.om_machine.specs.View.{View, state_of}
 use Rattle.om_machine.specs.Calls.{IsState, FailsToTake, FailsToPut}
 use mathlib.Core.Path.{fun_ext}

@@ -1,15 +1,13 @@
 -- The parts of the memory as ranges of addresses.
-use Rattle.std.proofs.Common.{◌≡◌, ◌≤◌, ◌<◌, ℕ, zero, suc, ◌+◌, ◌-◌, ◌*◌, ◌/◌, ◌%◌, ◌^◌, List, [], ◌∷◌, ◌++◌, length, take, drop, slice_index, Bool, true, false, nat_le, nat_lt, if◌then◌else◌, refl, ap, sym, ◌∙◌, arith, add-one}
+use Rattle.std.proofs.Common.{◌≡◌, ◌≤◌, ◌<◌, ℕ, zero, suc, ◌+◌, ◌-◌, ◌/◌, ◌%◌, List, length, take, drop, slice_index, refl, sym, arith, add-one}
 use Rattle.std.proofs.Math.Seq.{drop-cons}
 use Rattle.std.proofs.lemmas.Bool.Decides.{nat_tests}
-use Rattle.std.proofs.lemmas.Grind.{common_steps}
 use Rattle.byteorder.specs.Endian.{little_bytes}
-use Rattle.om_isa.specs.SystemCall.{resized}
 use Rattle.om_image.specs.Layout.{data_base, data_limit}
 use Rattle.om_image.specs.NumState.{stack_base, stack_size, heap_base}
-use Rattle.om_image.specs.NumAccess.{bytes_from, written}
+use Rattle.om_image.specs.NumAccess.{bytes_from}
 use Rattle.om_machine.specs.Mapped.{Mapped}
-use Rattle.om_machine.specs.Memory.{memory_of, IsPlace, Splices, Writes}
+use Rattle.om_machine.specs.Memory.{memory_of, IsPlace}
 
 -- the low bytes of a number that was cut to them
 pub two_bytes : (n : ℕ) → little_bytes 2 (n % 65536) ≡ little_bytes 2 n

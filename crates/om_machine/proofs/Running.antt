@@ -4,11 +4,10 @@ use Rattle.om_image.specs.declared.image.Image.{Image}
 use Rattle.om_image.specs.NumState.{NumState, NumEnd}
 use Rattle.om_image.specs.NumStep.{num_step, step_if}
 use Rattle.om_image.specs.NumRun.{num_steps}
-use Rattle.om_machine.specs.View.{View, state_of, end_of}
+use Rattle.om_machine.specs.View.{View}
 use Rattle.om_machine.specs.Streams.{Told}
 use Rattle.om_machine.specs.Calls.{IsState, IsAnswer}
-use Rattle.om_machine.specs.Steps.{IsAnswerOf, Arrives, StepsTo, RunsTo, FailsAtRead, FailsAtWrite}
-use Rattle.om_machine.specs.declared.machine.Ending.{Ending}
+use Rattle.om_machine.specs.Steps.{IsAnswerOf, Arrives, RunsTo, FailsAtRead, FailsAtWrite}
 use Rattle.om_machine.specs.declared.machine.Step.{Step}
 use Rattle.om_machine.specs.declared.machine.Step.TheVariants as step
 use Rattle.om_machine.proofs.Stepping.{arrives}

@@ -1,5 +1,5 @@
 -- The start of a run.
-use Rattle.std.proofs.Common.{◌≡◌, ℕ, zero, suc, List, [], ◌∷◌, Some, None, refl, arith, slice_index, replicate}
+use Rattle.std.proofs.Common.{◌≡◌, ℕ, zero, suc, List, [], None, refl, slice_index, replicate}
 use Rattle.om_image.specs.declared.image.Image.{Image}
 use Rattle.om_image.specs.NumStep.{num_start, start_registers, start_memory}
 use Rattle.om_machine.specs.Memory.{memory_of}

@@ -5,7 +5,6 @@ use Rattle.std.proofs.lemmas.List.{length-map}
 use Rattle.om_isa.specs.declared.instr.Instr.{Instr}
 use Rattle.om_isa.specs.declared.instr.Instr.TheVariants as instr
 use Rattle.om_isa.specs.Words.{instr_of}
-use Rattle.om_isa.specs.Effect.{Calls}
 use Rattle.om_image.specs.declared.image.Image.{Image}
 use Rattle.om_image.specs.Layout.{text_base}
 use Rattle.om_image.specs.NumState.{NumState, NumEnd}
@@ -97,7 +96,7 @@ module _ (i : Image) (v w : View) (image : HasImage i v) (s : NumState) where
   plain_state left out err next_is h =
       let t = state_of w s.input s.out s.err in
       let next : t ≡ num_step i s =
-        next_is s.input s.out s.err ∙ sym (stepped i v image s.input s.out s.err) ∙ ap (λ (x : NumState). num_step i x) h.machine in
+      next_is s.input s.out s.err ∙ sym (stepped i v image s.input s.out s.err) ∙ ap (λ (x : NumState). num_step i x) h.machine in
       let here : IsState w left out err t = record { machine = refl; input = h.input; out = h.out; err = h.err } in
       subst (λ (x : NumState). IsState w left out err x) next here
 

@@ -4,7 +4,6 @@ use Rattle.std.proofs.Math.Seq.{take-add, get_or-append_right}
 use Rattle.std.proofs.Math.ListN.{get_or-append}
 use Rattle.std.proofs.lemmas.List.{drop-drop}
 use Rattle.std.proofs.lemmas.Bool.Decides.{nat_tests}
-use Rattle.std.proofs.lemmas.Grind.{common_steps}
 use Rattle.om_image.specs.NumAccess.{written}
 use Rattle.om_machine.specs.Mapped.{Mapped}
 use Rattle.om_machine.specs.Memory.{memory_of}
@@ -25,14 +24,14 @@ taken_more m0 m1 m2 a k j xs l1 l2 first next =
       enough = omega (arith, first.enough, next.enough, left);
       rest = next.rest ∙ ap Some (drop-drop j k xs);
       places = λ y.
-      let one = first.places y in
-      let two = next.places y in
-      let both = written_twice (memory_of m0) a (take k xs) (take j (drop k xs)) y in
-      two
-      ∙ ap (λ old. if nat_le (a + k) y && nat_lt y ((a + k) + length (take j (drop k xs))) then slice_index (take j (drop k xs)) (y - (a + k)) else old) one
-      ∙ ap (λ n. written (written (memory_of m0) (a, take k xs)) (a + n, take j (drop k xs)) y) (sym size)
-      ∙ both
-      ∙ ap (λ zs. written (memory_of m0) (a, zs) y) joined;
+          let one = first.places y in
+          let two = next.places y in
+          let both = written_twice (memory_of m0) a (take k xs) (take j (drop k xs)) y in
+          two
+          ∙ ap (λ old. if nat_le (a + k) y && nat_lt y ((a + k) + length (take j (drop k xs))) then slice_index (take j (drop k xs)) (y - (a + k)) else old) one
+          ∙ ap (λ n. written (written (memory_of m0) (a, take k xs)) (a + n, take j (drop k xs)) y) (sym size)
+          ∙ both
+          ∙ ap (λ zs. written (memory_of m0) (a, zs) y) joined;
     }
 
 -- no more bytes are left

@@ -1,5 +1,5 @@
 -- What actions mean.
-use Rattle.std.specs.Prelude.{◌<◌, ℕ, IsTrue, length, Some, None}
+use Rattle.std.specs.Prelude.{◌<◌, IsTrue, length, Some, None}
 use Rattle.byteorder.specs.Endian.{little_bytes}
 use Rattle.om_isa.specs.Effect.{Nothing, Set, Store, Jump, Stop}
 use Rattle.om_image.specs.NumAccess.{size_bytes, is_mapped}

@@ -1,12 +1,12 @@
 -- What a system call asks for, and what is known of a state after it.
-use Rattle.std.specs.Prelude.{◌≡◌, ◌≤◌, ◌<◌, ◌+◌, ◌^◌, ◌++◌, ◌==◌, ℕ, IsTrue, List, length, drop, Option, Some, None, if◌then◌else◌}
+use Rattle.std.specs.Prelude.{◌≡◌, ◌≤◌, ◌<◌, ◌+◌, ◌^◌, ◌++◌, ℕ, IsTrue, List, length, Option, Some, None}
 use Rattle.om_io.specs.Outside.{IsFrontOf}
 use Rattle.om_isa.specs.SystemCall.{Reached, Call, Exits, Answers, Puts, Takes, HeapEnd, Resizes, heap_limit}
 use Rattle.om_image.specs.NumState.{NumState}
 use Rattle.om_image.specs.NumAccess.{is_mapped, bytes_from}
 use Rattle.om_image.specs.NumStep.{bytes_at, room_at, calls, puts_on, takes_to}
 use Rattle.om_machine.specs.Memory.{memory_of}
-use Rattle.om_machine.specs.View.{View, state_of, end_of, view_register, view_call}
+use Rattle.om_machine.specs.View.{View, state_of, view_register, view_call}
 use Rattle.om_machine.specs.Streams.{Told, Tells}
 use Rattle.om_machine.specs.declared.requests.Descriptor.{Descriptor}
 use Rattle.om_machine.specs.declared.requests.Descriptor.TheVariants as descriptor

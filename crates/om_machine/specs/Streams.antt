@@ -1,5 +1,5 @@
 -- What is moved from a source to memory, and what is known of a sink.
-use Rattle.std.specs.Prelude.{◌≡◌, ◌≤◌, ◌<◌, ◌++◌, ◌⊎◌, ℕ, List, [], length, take, drop, Bool, true, false, Option, Some, None, Result, Ok, Err}
+use Rattle.std.specs.Prelude.{◌≡◌, ◌≤◌, ◌<◌, ◌++◌, ◌⊎◌, ℕ, List, [], length, take, drop, Bool, true, false, Option, Some, Result, Ok, Err}
 use Rattle.om_io.specs.Outside.{IsFrontOf}
 use Rattle.om_image.specs.NumAccess.{written}
 use Rattle.om_machine.specs.Mapped.{Mapped}

@@ -1,5 +1,5 @@
 -- The machine as contracts see it.
-use Rattle.std.specs.Prelude.{◌≡◌, ◌≤◌, ℕ, ◌-◌, ◌/◌, ◌%◌, ◌==◌, ◌&&◌, ℤ, if◌then◌else◌, List, length, map, slice_get, slice_index, Option, Some, None, option_map}
+use Rattle.std.specs.Prelude.{◌≡◌, ℕ, ◌-◌, ◌/◌, ◌%◌, ◌==◌, ◌&&◌, ℤ, if◌then◌else◌, List, length, map, slice_get, slice_index, Option, Some, None, option_map}
 use Rattle.om_alpha.specs.declared.op.AluOp.{AluOp}
 use Rattle.om_alpha.specs.declared.op.TrapKind.TheVariants as trap
 use Rattle.om_isa.specs.declared.instr.Instr.{Instr}
@@ -11,7 +11,7 @@ use Rattle.om_isa.specs.SystemCall.{Call}
 use Rattle.om_image.specs.declared.image.Image.{Image}
 use Rattle.om_image.specs.Layout.{text_base}
 use Rattle.om_image.specs.NumState.{NumState, NumEnd, Exited, Trapped, register_at}
-use Rattle.om_image.specs.NumStep.{NumEffect, is_text, operand, load_effect, store_effect, memory_effect, jump_effect, branch_effect, alu_effect, call_of, effect_of, ends, after, data_size}
+use Rattle.om_image.specs.NumStep.{NumEffect, is_text, load_effect, store_effect, memory_effect, jump_effect, branch_effect, alu_effect, call_of, effect_of, ends, after, data_size}
 use Rattle.om_machine.specs.Mapped.{Mapped}
 use Rattle.om_machine.specs.Memory.{memory_of}
 use Rattle.om_machine.specs.declared.machine.Ending.{Ending}

@@ -10,5 +10,7 @@ mod machine;
 mod memory;
 mod requests;
 mod streams;
+#[cfg(test)]
+mod tests;
 
 pub use machine::{Machine, Step};

@@ -18,7 +18,8 @@ ghost use Rattle.om_machine.specs.Steps.{StepsTo, RunsTo, IsCallNext};
 ghost use Rattle.om_machine.specs.View.{HasImage, state_of, end_of, instr_at, view_register, view_load, view_store, view_access, view_jump, view_branch, view_alu, view_effect, view_call, view_step};
 
 use crate::actions::{
-    Action, TEXT_BASE, address_of, displaced_by, extend, in_text, is_aligned, scaled, size_of_op, sum,
+    Action, TEXT_BASE, address_of, displaced_by, extend, in_text, is_aligned, scaled, size_of_op,
+    sum,
 };
 use crate::loading::{first_registers, read_code, set_register};
 use crate::memory::Memory;
@@ -32,6 +33,7 @@ use std::alloc::Global;
 use std::marker::Model;
 
 const HEAP_BASE: u64 = 0x1_6000_0000;
+
 const HEAP_LIMIT: u64 = 0x100_0000;
 
 /// What a step answers.
@@ -72,8 +74,8 @@ pub struct Machine {
 impl Model for Machine {
     ghost use Rattle.std.specs.Prelude.{◌≤◌, length};
     ghost use Rattle.om_machine.specs.Memory.{memory_of};
-ghost use Rattle.om_machine.specs.Streams.{Puts, Told};
-ghost use Rattle.om_machine.specs.View.{View};
+    ghost use Rattle.om_machine.specs.Streams.{Puts, Told};
+    ghost use Rattle.om_machine.specs.View.{View};
 
     ghost Value = { View };
 
@@ -527,12 +529,7 @@ impl Machine {
     }
 
     /// Does a system call.
-    fn call<I: Source, O: Sink, E: Sink>(
-        &mut self,
-        input: &mut I,
-        out: &mut O,
-        err: &mut E,
-    ) -> Step
+    fn call<I: Source, O: Sink, E: Sink>(&mut self, input: &mut I, out: &mut O, err: &mut E) -> Step
         requires running { self.old.end ≡ None }
         requires place { self.old.pc < 2 ^ 63 }
         ensures calls { (s : NumState) (out_tells err_tells : Bool)

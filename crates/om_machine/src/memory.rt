@@ -14,9 +14,13 @@ use std::alloc::Global;
 use std::marker::Model;
 
 const DATA_BASE: u64 = 0x1_4000_0000;
+
 const STACK_BASE: u64 = 0x1_1ff0_0000;
+
 const STACK_SIZE: u64 = 0x10_0000;
+
 const HEAP_BASE: u64 = 0x1_6000_0000;
+
 const HEAP_LIMIT: u64 = 0x100_0000;
 
 /// The bytes of the data, the stack and the heap. Those of the heap are all there from the start; past its size they

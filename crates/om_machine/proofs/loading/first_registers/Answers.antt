@@ -1,4 +1,4 @@
-use Rattle.std.proofs.Common.{◌≡◌, refl}
+use Rattle.std.proofs.Common.{refl}
 use Rattle.om_machine.proofs.Starting.{no_registers}
 use Rattle.om_machine.proofs.loading.first_registers.Goals as goal
 

@@ -1,4 +1,4 @@
-use Rattle.std.proofs.Common.{◌≡◌, ◌≤◌, ◌<◌, ℕ, List, ◌++◌, ◌+◌, ◌-◌, length, take, drop, Option, Some, arith, ap, ◌∙◌, append_assoc, sym}
+use Rattle.std.proofs.Common.{◌≡◌, ◌≤◌, ℕ, List, ◌++◌, ◌+◌, ◌-◌, take, drop, Option, Some, arith, ap, ◌∙◌, append_assoc, sym}
 use Rattle.std.proofs.Math.Seq.{take-add}
 use Rattle.std.proofs.lemmas.List.{take-append-drop}
 use Rattle.om_machine.proofs.streams.put_all.Goals as goal
@@ -17,9 +17,9 @@ front_of a n old bytes o e =
     let y = e.1.0 in
     let rest = drop n (drop a bytes) in
     let whole : (take a bytes ++ x) ++ (y ++ rest) ≡ bytes =
-      append_assoc (take a bytes) x (y ++ rest)
-      ∙ ap (λ zs. take a bytes ++ zs) (sym (append_assoc x y rest) ∙ ap (λ zs. zs ++ rest) e.1.1 ∙ take-append-drop n (drop a bytes))
-      ∙ take-append-drop a bytes in
+    append_assoc (take a bytes) x (y ++ rest)
+    ∙ ap (λ zs. take a bytes ++ zs) (sym (append_assoc x y rest) ∙ ap (λ zs. zs ++ rest) e.1.1 ∙ take-append-drop n (drop a bytes))
+    ∙ take-append-drop a bytes in
     (take a bytes ++ x, (y ++ rest, whole), e.2 ∙ ap Some (append_assoc old (take a bytes) x))
 
 pub returns-in-Err-clause-appends : goal.returns-in-Err-clause-appends
@@ -29,6 +29,9 @@ returns-in-Err-clause-appends g c = λ old told.
 pub loop-at-preserved : goal.loop-at-preserved
 loop-at-preserved g c =
     let e = c.min-end.ensures in
-    let least : c.loop-at.at ≤ c.min-end.result = omega (arith, e) in
-    (omega (arith, e), c.in_default.ensures.cause.kept ∙ c.loop-at.invariant.1, λ old told.
-      pieces c.loop-at.at c.min-end.result old c.args.bytes.now (g.S.Sink.written c.put.new.self) least (c.in_default.ensures.appends (old ++ take c.loop-at.at c.args.bytes.now) (c.loop-at.invariant.2 old told)))
+    let least : c.loop-at.at ≤ c.min-end.result = omega (arith, e) in (
+      omega (arith, e),
+      c.in_default.ensures.cause.kept ∙ c.loop-at.invariant.1,
+      λ old told.
+          pieces c.loop-at.at c.min-end.result old c.args.bytes.now (g.S.Sink.written c.put.new.self) least (c.in_default.ensures.appends (old ++ take c.loop-at.at c.args.bytes.now) (c.loop-at.invariant.2 old told)),
+    )

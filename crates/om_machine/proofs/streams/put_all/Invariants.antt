@@ -1,4 +1,4 @@
-use Rattle.std.proofs.Common.{◌≡◌, ℕ, List, ◌++◌, ◌<◌, ◌≤◌, ◌-◌, length, take, Option, Some}
+use Rattle.std.proofs.Common.{◌≡◌, ℕ, List, ◌++◌, ◌≤◌, ◌-◌, length, take, Some}
 use Rattle.om_machine.proofs.streams.put_all.Given as goal
 
 abbrev pub invariant-loop-at : goal.invariant-loop-at

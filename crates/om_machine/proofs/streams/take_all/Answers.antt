@@ -1,5 +1,4 @@
-use Rattle.std.proofs.Common.{◌≡◌, ◌≤◌, ◌<◌, ℕ, ◌+◌, length, drop, ap, ◌∙◌, arith, inr}
-use Rattle.om_machine.specs.Streams.{TakesFront}
+use Rattle.std.proofs.Common.{◌≡◌, ◌+◌, drop, ◌∙◌, arith, inr}
 use Rattle.om_machine.proofs.Taking.{taken_more, all_taken}
 use Rattle.om_machine.proofs.streams.take_all.Goals as goal
 
@@ -12,8 +11,13 @@ returns-in-Ok-eq0-clause-taken g c = λ bytes told.
     (rw zero at more, inr (omega arith, all_taken c.loop-taken.taken bytes before.enough (piece.1 c.in-Ok-eq0.field-0-test)))
 
 pub loop-taken-preserved : goal.loop-taken-preserved
-loop-taken-preserved g c =
-    (omega (arith, c.in-Ok.ensures.most), c.in-Ok.ensures.«data» ∙ c.loop-taken.invariant.1, c.in-Ok.ensures.heap ∙ c.loop-taken.invariant.2, c.in-Ok.ensures.cause.kept ∙ c.loop-taken.invariant.3, λ bytes told.
+loop-taken-preserved g c = (
+  omega (arith, c.in-Ok.ensures.most),
+  c.in-Ok.ensures.«data» ∙ c.loop-taken.invariant.1,
+  c.in-Ok.ensures.heap ∙ c.loop-taken.invariant.2,
+  c.in-Ok.ensures.cause.kept ∙ c.loop-taken.invariant.3,
+  λ bytes told.
       let before = c.loop-taken.invariant.4 bytes told in
       let piece = c.in-Ok.ensures.taken (drop c.loop-taken.taken bytes) before.rest in
-      taken_more _ _ _ _ _ _ bytes _ _ before piece.0)
+      taken_more _ _ _ _ _ _ bytes _ _ before piece.0,
+)

@@ -1,4 +1,4 @@
-use Rattle.std.proofs.Common.{◌≡◌, ℕ, List, ◌<◌, ◌≤◌, ◌-◌, length, Option, Some}
+use Rattle.std.proofs.Common.{◌≡◌, ℕ, List, ◌≤◌, ◌-◌, length, Some}
 use Rattle.om_machine.specs.Streams.{TakesFront}
 use Rattle.om_machine.proofs.streams.take_all.Given as goal
 

@@ -1,6 +1,6 @@
-use Rattle.std.proofs.Common.{◌≡◌, ◌+◌, ◌∙◌, ap, subst, sym, refl, slice_index}
+use Rattle.std.proofs.Common.{◌+◌, ◌∙◌, ap, subst, sym, refl, slice_index}
 use Rattle.om_isa.specs.SystemCall.{Call, Puts}
-use Rattle.om_image.specs.NumState.{NumState, heap_base}
+use Rattle.om_image.specs.NumState.{heap_base}
 use Rattle.om_image.specs.NumAccess.{bytes_from}
 use Rattle.om_image.specs.NumStep.{answers, calls}
 use Rattle.om_machine.specs.Memory.{memory_of}

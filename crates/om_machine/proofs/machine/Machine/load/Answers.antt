@@ -1,6 +1,5 @@
-use Rattle.std.proofs.Common.{◌≡◌, ◌-◌, ◌∙◌, ap, refl, None, nat_le, if◌then◌else◌, slice_index}
+use Rattle.std.proofs.Common.{◌-◌, ◌∙◌, ap, refl, None, nat_le, if◌then◌else◌, slice_index}
 use Rattle.om_image.specs.Layout.{data_base}
-use Rattle.om_machine.specs.View.{View}
 use Rattle.om_machine.proofs.Starting.{started}
 use Rattle.om_machine.proofs.machine.Machine.load.Goals as goal
 

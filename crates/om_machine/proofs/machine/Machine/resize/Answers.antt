@@ -1,4 +1,4 @@
-use Rattle.std.proofs.Common.{◌≡◌, ◌∙◌, ap}
+use Rattle.std.proofs.Common.{◌∙◌, ap}
 use Rattle.om_image.specs.NumStep.{answers}
 use Rattle.om_machine.proofs.machine.Machine.resize.Goals as goal
 

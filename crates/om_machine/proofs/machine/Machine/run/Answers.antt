@@ -1,18 +1,22 @@
 use Rattle.std.proofs.Common.{◌≡◌, ◌∙◌, subst, refl, arith}
 use Rattle.om_image.specs.NumState.{NumState, Exited, Trapped}
 use Rattle.om_image.specs.NumRun.{num_steps}
-use Rattle.om_machine.specs.Streams.{Told}
 use Rattle.om_machine.specs.Calls.{IsState}
 use Rattle.om_machine.specs.declared.machine.Step.TheVariants as step
 use Rattle.om_machine.proofs.Running.{next_of, runs_out, read_failed, write_failed, runs_through}
 use Rattle.om_machine.proofs.machine.Machine.run.Goals as goal
 
 pub loop-turn-preserved : goal.loop-turn-preserved
-loop-turn-preserved g c =
-    (λ i image. c.in-Went.ensures.image i (c.loop-turn.invariant.0 i image), c.in-Went.ensures.no_read_fault (λ e. cc) ∙ c.loop-turn.invariant.1, (c.in-Went.ensures.no_write_fault (λ e. cc)).0 ∙ c.loop-turn.invariant.2, (c.in-Went.ensures.no_write_fault (λ e. cc)).1 ∙ c.loop-turn.invariant.3, λ i s ot et image h.
+loop-turn-preserved g c = (
+  λ i image. c.in-Went.ensures.image i (c.loop-turn.invariant.0 i image),
+  c.in-Went.ensures.no_read_fault (λ e. cc) ∙ c.loop-turn.invariant.1,
+  (c.in-Went.ensures.no_write_fault (λ e. cc)).0 ∙ c.loop-turn.invariant.2,
+  (c.in-Went.ensures.no_write_fault (λ e. cc)).1 ∙ c.loop-turn.invariant.3,
+  λ i s ot et image h.
       let before = c.loop-turn.invariant.4 i s ot et image h in
       let next = c.in-Went.ensures.steps i (num_steps i s c.loop-turn.turn) ot et (c.loop-turn.invariant.0 i image) before in
-      subst (λ (x : NumState). IsState c.step.new.self (g.I.Source.left c.step.new.input) (ot, g.O.Sink.written c.step.new.out) (et, g.E.Sink.written c.step.new.err) x) (next_of i s c.loop-turn.turn) next.state)
+      subst (λ (x : NumState). IsState c.step.new.self (g.I.Source.left c.step.new.input) (ot, g.O.Sink.written c.step.new.out) (et, g.E.Sink.written c.step.new.err) x) (next_of i s c.loop-turn.turn) next.state,
+)
 
 pub returns-in-Exit-clause-runs : goal.returns-in-Exit-clause-runs
 returns-in-Exit-clause-runs g c = λ i s ot et image h.

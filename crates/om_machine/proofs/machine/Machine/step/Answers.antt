@@ -1,4 +1,4 @@
-use Rattle.std.proofs.Common.{◌≡◌, ◌∙◌, ap, subst, sym, refl}
+use Rattle.std.proofs.Common.{◌∙◌, ap, subst, sym, refl}
 use Rattle.om_machine.specs.View.{View, HasImage, instr_at}
 use Rattle.om_machine.specs.Streams.{Told}
 use Rattle.om_machine.specs.Calls.{IsState}

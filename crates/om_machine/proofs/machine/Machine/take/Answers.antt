@@ -1,5 +1,4 @@
-use Rattle.std.proofs.Common.{◌≡◌, ℕ, List, ◌∙◌, ap, subst, Some, Ok, Err, slice_index}
-use Rattle.om_image.specs.NumState.{NumState}
+use Rattle.std.proofs.Common.{◌≡◌, ℕ, ◌∙◌, ap, subst, Ok, Err, slice_index}
 use Rattle.om_image.specs.NumStep.{answers}
 use Rattle.om_machine.specs.Streams.{Takes}
 use Rattle.om_machine.specs.View.{View, state_of}

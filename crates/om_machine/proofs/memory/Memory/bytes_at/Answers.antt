@@ -20,5 +20,5 @@ returns-in-Some-Heap-clause-value c =
     let m : Mapped = record { bytes = c.self.inside.bytes.items; stack = c.self.inside.stack.items; heap = c.self.inside.heap.items; heap_size = c.self.inside.heap_size } in
     let p = rw (← c.self.view_is, c.in-Some-Heap.field-0-is) at c.in-Some-Heap.ensures.found in
     let fits : c.self.inside.heap_size ≤ length c.self.inside.heap.items =
-      omega (arith, c.self.invariant.size_fits, c.self.invariant.heap_fits) in
+    omega (arith, c.self.invariant.size_fits, c.self.invariant.heap_fits) in
     rw (c.deref-in-Some-Heap.ensures.value, ← c.self.view_is) (heap_range m c.args.address c.args.n c.in-Some-Heap.at fits p)
