@@ -117,9 +117,10 @@ module _ (i : Image) (steps : ℕ) (v : View) (image : HasImage i v) (start : (i
     pub arrived : (answer : Step) →
         Arrives answer (num_steps i first steps) w new.input.told (tells_of old.out.told, new.out.told) (tells_of old.err.told, new.err.told) →
         StandsAt (num_run i xs steps) old new × IsAnswerOf answer (num_run i xs steps).end
-    arrived answer a =
-        (stands_by (num_steps i first steps) (num_run i xs steps) (run_is steps) a.state,
-        subst (λ (x : NumState). IsAnswerOf answer x.end) (run_is steps) a.answer_is)
+    arrived answer a = (
+      stands_by (num_steps i first steps) (num_run i xs steps) (run_is steps) a.state,
+      subst (λ (x : NumState). IsAnswerOf answer x.end) (run_is steps) a.answer_is,
+    )
 
     at_front : (t : NumState) (call : Call) (a1 : ℕ) → IsAtCall i (with_front (text_of old.out.told) (text_of old.err.told) t) call a1 → IsAtCall i t call a1
     at_front t call a1 at = record { running = at.running; effect = at.effect }
@@ -132,8 +133,12 @@ module _ (i : Image) (steps : ℕ) (v : View) (image : HasImage i v) (start : (i
     broken_read s t n within here is call a1 at fails = record {
       done = n;
       within = within;
-      next = (fails.count, a1, subst (λ c. IsAtCall i (num_run i xs n) c a1) fails.asked
-          (subst (λ (x : NumState). IsAtCall i x call a1) here (at_front t call a1 (subst (λ (x : NumState). IsAtCall i x call a1) is at))));
+      next = (
+        fails.count,
+        a1,
+        subst (λ c. IsAtCall i (num_run i xs n) c a1) fails.asked
+            (subst (λ (x : NumState). IsAtCall i x call a1) here (at_front t call a1 (subst (λ (x : NumState). IsAtCall i x call a1) is at))),
+      );
       out = λ before b. (
         t.out,
         subst (λ (x : NumState). IsFrontOf x.out (num_run i xs steps).out) (sym here) (out_grows i (num_start i xs) n steps (omega (arith, within))),

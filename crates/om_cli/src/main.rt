@@ -10,6 +10,8 @@ mod loading;
 mod obeying;
 mod report;
 mod run_stop;
+#[cfg(test)]
+mod run_tests;
 mod running;
 mod stopping;
 #[cfg(test)]

@@ -29,6 +29,19 @@ fn alu_agrees(rest: &str) -> Option<bool> {
     Some(alu(op, a, b) == hex(result)? && overflows(op, a, b) == (over == "yes"))
 }
 
+/// The word, the operands and the result of `alu WORD A B RESULT no`, where nothing overflows.
+pub fn computed(line: &str) -> Option<(u32, [u64; 3])> {
+    let rest = line.strip_prefix("alu ")?;
+    let (word, rest) = rest.split_once(' ')?;
+    let (a, rest) = rest.split_once(' ')?;
+    let (b, rest) = rest.split_once(' ')?;
+    let (result, over) = rest.split_once(' ')?;
+    if over != "no" {
+        return None;
+    }
+    Some((word_of(word)?, [hex(a)?, hex(b)?, hex(result)?]))
+}
+
 /// `cond WORD A HOLDS`
 fn cond_agrees(rest: &str) -> Option<bool> {
     let (word, rest) = rest.split_once(' ')?;

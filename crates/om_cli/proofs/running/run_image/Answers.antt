@@ -5,11 +5,14 @@ use Rattle.om_cli.proofs.running.run_image.Goals as goal
 
 pub returns-in-Went : goal.returns-in-Went
 returns-in-Went g c =
-    inr (refl, λ xs told.
-    arrived c.args.image.now c.args.steps c.in-Ok.machine c.in-Ok.ensures.image c.in-Ok.ensures.start _ xs _ _ step.Went
-    (c.in-Went.ensures.runs c.args.image.now (first c.args.image.now c.args.steps c.in-Ok.machine c.in-Ok.ensures.image c.in-Ok.ensures.start _ xs)
-    (tells_of (g.O.Sink.written c.args.out.now)) (tells_of (g.E.Sink.written c.args.err.now)) c.in-Ok.ensures.image
-    (first_is c.args.image.now c.args.steps c.in-Ok.machine c.in-Ok.ensures.image c.in-Ok.ensures.start _ xs told)))
+    inr (
+      refl,
+      λ xs told.
+          arrived c.args.image.now c.args.steps c.in-Ok.machine c.in-Ok.ensures.image c.in-Ok.ensures.start _ xs _ _ step.Went
+          (c.in-Went.ensures.runs c.args.image.now (first c.args.image.now c.args.steps c.in-Ok.machine c.in-Ok.ensures.image c.in-Ok.ensures.start _ xs)
+          (tells_of (g.O.Sink.written c.args.out.now)) (tells_of (g.E.Sink.written c.args.err.now)) c.in-Ok.ensures.image
+          (first_is c.args.image.now c.args.steps c.in-Ok.machine c.in-Ok.ensures.image c.in-Ok.ensures.start _ xs told)),
+    )
 
 pub returns-in-Exit : goal.returns-in-Exit
 returns-in-Exit g c =
@@ -29,16 +32,22 @@ returns-in-Trap g c =
 
 pub returns-in-ReadFault : goal.returns-in-ReadFault
 returns-in-ReadFault g c =
-    inr (c.in-ReadFault.ensures.read_fault refl, λ xs told.
-    read_failed c.args.image.now c.args.steps c.in-Ok.machine c.in-Ok.ensures.image c.in-Ok.ensures.start _ xs _ _
-    (c.in-ReadFault.ensures.runs c.args.image.now (first c.args.image.now c.args.steps c.in-Ok.machine c.in-Ok.ensures.image c.in-Ok.ensures.start _ xs)
-    (tells_of (g.O.Sink.written c.args.out.now)) (tells_of (g.E.Sink.written c.args.err.now)) c.in-Ok.ensures.image
-    (first_is c.args.image.now c.args.steps c.in-Ok.machine c.in-Ok.ensures.image c.in-Ok.ensures.start _ xs told)))
+    inr (
+      c.in-ReadFault.ensures.read_fault refl,
+      λ xs told.
+          read_failed c.args.image.now c.args.steps c.in-Ok.machine c.in-Ok.ensures.image c.in-Ok.ensures.start _ xs _ _
+          (c.in-ReadFault.ensures.runs c.args.image.now (first c.args.image.now c.args.steps c.in-Ok.machine c.in-Ok.ensures.image c.in-Ok.ensures.start _ xs)
+          (tells_of (g.O.Sink.written c.args.out.now)) (tells_of (g.E.Sink.written c.args.err.now)) c.in-Ok.ensures.image
+          (first_is c.args.image.now c.args.steps c.in-Ok.machine c.in-Ok.ensures.image c.in-Ok.ensures.start _ xs told)),
+    )
 
 pub returns : goal.returns
 returns g c =
-    inr (c.in-WriteFault.ensures.write_fault refl, λ xs told.
-    put_failed c.args.image.now c.args.steps c.in-Ok.machine c.in-Ok.ensures.image c.in-Ok.ensures.start _ xs _ _
-    (c.in-WriteFault.ensures.runs c.args.image.now (first c.args.image.now c.args.steps c.in-Ok.machine c.in-Ok.ensures.image c.in-Ok.ensures.start _ xs)
-    (tells_of (g.O.Sink.written c.args.out.now)) (tells_of (g.E.Sink.written c.args.err.now)) c.in-Ok.ensures.image
-    (first_is c.args.image.now c.args.steps c.in-Ok.machine c.in-Ok.ensures.image c.in-Ok.ensures.start _ xs told)))
+    inr (
+      c.in-WriteFault.ensures.write_fault refl,
+      λ xs told.
+          put_failed c.args.image.now c.args.steps c.in-Ok.machine c.in-Ok.ensures.image c.in-Ok.ensures.start _ xs _ _
+          (c.in-WriteFault.ensures.runs c.args.image.now (first c.args.image.now c.args.steps c.in-Ok.machine c.in-Ok.ensures.image c.in-Ok.ensures.start _ xs)
+          (tells_of (g.O.Sink.written c.args.out.now)) (tells_of (g.E.Sink.written c.args.err.now)) c.in-Ok.ensures.image
+          (first_is c.args.image.now c.args.steps c.in-Ok.machine c.in-Ok.ensures.image c.in-Ok.ensures.start _ xs told)),
+    )
