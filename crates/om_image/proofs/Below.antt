@@ -1,5 +1,5 @@
 -- Sums and tests of all numbers below a number.
-use Rattle.std.proofs.Common.{◌≡◌, ℕ, zero, suc, ◌+◌, ◌*◌, ◌<◌, ◌≤◌, Bool, true, false, refl, ap, sym, ◌∙◌, arith}
+use Rattle.std.proofs.Common.{◌≡◌, ℕ, zero, suc, ◌+◌, ◌<◌, ◌≤◌, Bool, true, false, refl, ap, ◌∙◌, arith}
 use native.Mathlib.Decide.{dec_lt}
 use Rattle.std.specs.Prelude.{◌&&◌}
 use Rattle.om_image.specs.declared.part.Part.{Part}

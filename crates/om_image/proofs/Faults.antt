@@ -1,5 +1,5 @@
 -- The first faults of images are the least.
-use Rattle.std.proofs.Common.{◌≡◌, ℕ, List, [], ◌∷◌, ◌++◌, refl, ap, sym, ◌∙◌, arith}
+use Rattle.std.proofs.Common.{◌≡◌, ℕ, List, [], ◌∷◌, ◌++◌, refl, arith}
 use Rattle.std.specs.Prelude.{Option, Some, None}
 use Rattle.om_fields.specs.Places.{least}
 use Rattle.om_fields.specs.Rules.{Rule, IsFirstFault, IsUnbroken, first_fault, AreAbove}

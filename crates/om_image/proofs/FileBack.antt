@@ -1,13 +1,13 @@
 -- A written image is read as itself, and breaks no rule.
 use Rattle.std.proofs.Common.{◌≡◌, ◌<◌, ◌≤◌, ◌+◌, ◌-◌, ◌*◌, ◌/◌, ◌%◌, ◌^◌, inl, inr, ℕ, zero, suc, Bool, true, false, List, [], ◌∷◌, ◌++◌, length, get_or, lit<, refl, sym, ap, ◌∙◌, subst, append_assoc, append-nil, length-append, arith}
-use Rattle.std.specs.Prelude.{Option, Some, None, All, flat_map, is_some, is_none, ◌&&◌, ◌||◌, ◌==◌, not, nat_lt, bytes_eq, if◌then◌else◌}
+use Rattle.std.specs.Prelude.{Option, Some, None, All, is_some, is_none, ◌==◌, not, nat_lt, bytes_eq, if◌then◌else◌}
 use Rattle.std.proofs.lemmas.List.{length-replicate}
 use Rattle.std.proofs.Math.Dec.{eqb-suc-zero}
 use Rattle.std.proofs.lemmas.Bool.Decides.{nat_tests}
 use Rattle.byteorder.specs.Endian.{little_from, little_bytes}
 use Rattle.byteorder.specs.Numbers.{little_number-reads_back}
 use Rattle.om_fields.specs.Bytes.{zeros, word_bytes, words_at}
-use Rattle.om_fields.specs.Places.{number_at, bytes_at, round_up, picked, place_if, is_past, IsAmong}
+use Rattle.om_fields.specs.Places.{number_at, bytes_at, picked, place_if, is_past, IsAmong}
 use Rattle.om_fields.specs.Rules.{Rule, Breaks, IsUnbroken}
 use Rattle.om_fields.specs.Headers.{file_header, optional_header, section_header, section_place as half_header}
 use Rattle.om_fields.specs.HeaderFields.{section_count, header_at, rule_1, rule_2, rule_3}
@@ -15,14 +15,13 @@ use Rattle.om_fields.proofs.Numbers.{words_back, length-word_bytes}
 use Rattle.om_isa.specs.Words.{instr_of}
 use Rattle.om_image.specs.declared.image.Image.{Image}
 use Rattle.om_image.specs.declared.map.Map.{Map}
-use Rattle.om_image.specs.declared.part.HeadRule.{HeadRule}
 use Rattle.om_image.specs.declared.part.HeadRule.TheVariants.{Named, Inside, Placed}
 use Rattle.om_image.specs.Layout.{text_base, data_base, text_limit, data_limit}
 use Rattle.om_image.specs.Written.{text_name, data_name, bss_name, map_name, text_place, data_place, map_place, named_place, image_headers, image_body, map_bytes, map_size, file_of}
 use Rattle.om_image.specs.MapFields.{map_of, is_map}
-use Rattle.om_image.specs.Rules.{section_address, section_size, section_place, section_bytes, image_of, name_of, address_of, is_uneven, is_oversized, has_bytes, breaks_head, heads_where, rule_4, rule_5, rule_6, rule_7, rule_8, rule_9, is_entry, is_unreadable, head_rules, body_rules, image_rules}
-use Rattle.om_image.specs.Valid.{IsMap, IsValidImage}
-use Rattle.om_image.specs.RoundTrip.{HasWidths, ReadsBack, WrittenIsRead}
+use Rattle.om_image.specs.Rules.{section_address, section_size, section_place, section_bytes, image_of, is_uneven, breaks_head, heads_where, rule_4, rule_5, rule_6, rule_7, rule_8, rule_9, is_entry, is_unreadable, image_rules}
+use Rattle.om_image.specs.Valid.{IsValidImage}
+use Rattle.om_image.specs.RoundTrip.{HasWidths, WrittenIsRead}
 use Rattle.om_image.proofs.Rounding.{rounded_above, rounded_below}
 use Rattle.om_image.proofs.Deciding.{neither, not_true, is_eq, is_not_lt}
 use Rattle.om_image.proofs.Standing.{IsAt, whole, first_in, second_in, as_piece, at_place, number_in, bytes_in, inside}

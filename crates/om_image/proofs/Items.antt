@@ -9,7 +9,7 @@ use Rattle.om_image.specs.declared.map.MapWord.{MapWord}
 use Rattle.om_image.specs.declared.map.Map.{Map}
 use Rattle.om_image.specs.declared.shape.Shape.{Shape}
 use Rattle.om_image.specs.Shapes.{IsShape}
-use Rattle.om_image.specs.MapFields.{objects_in, tables_in, slots_in, regions_in, words_in, regions_at, words_at, map_of, object_at, slot_at, table_at, map_region_at, source_at}
+use Rattle.om_image.specs.MapFields.{objects_in, tables_in, regions_in, words_in, regions_at, words_at, map_of, object_at, table_at, map_region_at, source_at}
 
 pub tables_next : (b : List ℕ) (n : ℕ) → each (table_at b) (n + 1) ≡ each (table_at b) n ++ table_at b n ∷ []
 tables_next b n = each-snoc (table_at b) n

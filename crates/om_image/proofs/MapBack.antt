@@ -1,11 +1,11 @@
 -- A written map is read as itself.
 use Rattle.std.proofs.Common.{◌≡◌, ◌<◌, ◌≤◌, ◌+◌, ◌-◌, ◌*◌, ◌^◌, ℕ, zero, suc, Bool, true, false, List, [], ◌∷◌, ◌++◌, length, get_or, refl, sym, ap, ◌∙◌, subst, length-append, arith}
 use native.Mathlib.Decide.{dec_lt}
-use Rattle.std.specs.Prelude.{All, sum_by, flat_map, ◌&&◌, ◌==◌, nat_le, bytes_eq, if◌then◌else◌}
+use Rattle.std.specs.Prelude.{sum_by, flat_map, ◌==◌, nat_le, bytes_eq, if◌then◌else◌}
 use Rattle.std.proofs.lemmas.List.Sums.{sum_by-append}
 use Rattle.byteorder.specs.Endian.{little_from}
 use Rattle.byteorder.specs.Numbers.{little_number-reads_back}
-use Rattle.om_fields.specs.Places.{number_at, bytes_at, each_from, each}
+use Rattle.om_fields.specs.Places.{number_at, bytes_at, each}
 use Rattle.om_image.specs.declared.map.Target.{Target}
 use Rattle.om_image.specs.declared.map.Target.TheVariants.{Num}
 use Rattle.om_image.specs.declared.map.Region.TheVariants.{Stack}
@@ -16,14 +16,14 @@ use Rattle.om_image.specs.declared.map.MapWord.{MapWord}
 use Rattle.om_image.specs.declared.map.Map.{Map}
 use Rattle.om_image.specs.declared.part.Part.TheVariants.{Object, Table, Slot, Extent, Word}
 use Rattle.om_image.specs.Written.{u32_bytes, mark, map_head, map_bytes, map_size, slot_count, slot_bytes, slots_bytes, object_bytes, table_bytes, region_bytes, source_bytes}
-use Rattle.om_image.specs.MapFields.{sum_below, objects_in, tables_in, regions_in, words_in, tables_at, slots_at, slots_of, slots_before, slots_in, regions_at, words_at, map_end, object_at, slot_at, table_with, table_at, map_region_at, source_at, map_of, is_fine_slot, is_fine, are_fine, object_words, is_marked, holds_tables, is_filled, has_fine_parts, is_map}
-use Rattle.om_image.specs.Valid.{IsSlot, IsInMap, IsMap}
-use Rattle.om_image.specs.RoundTrip.{HasTargetWidths, HasObjWidths, HasTableWidths, HasExtentWidths, HasMapWidths}
+use Rattle.om_image.specs.MapFields.{objects_in, tables_in, regions_in, words_in, tables_at, slots_at, slots_of, slots_before, slots_in, regions_at, words_at, map_end, object_at, slot_at, table_at, map_region_at, source_at, map_of, is_fine_slot, is_fine, are_fine, object_words, is_marked, holds_tables, is_filled, has_fine_parts, is_map}
+use Rattle.om_image.specs.Valid.{IsMap}
+use Rattle.om_image.specs.RoundTrip.{HasMapWidths}
 use Rattle.om_image.proofs.Deciding.{both, is_eq, is_lt, is_le}
 use Rattle.om_image.proofs.Below.{all_true, sum_next}
 use Rattle.om_image.proofs.Valid.{sum_each}
 use Rattle.om_image.proofs.Items.{same_map}
-use Rattle.om_image.proofs.Standing.{IsAt, whole, first_in, second_in, as_piece, at_place, number_in, bytes_in, inside}
+use Rattle.om_image.proofs.Standing.{IsAt, whole, first_in, second_in, as_piece, at_place, number_in, bytes_in}
 use Rattle.om_image.proofs.Pieces.{six_in, length_six, flat_end, item_in, each_all}
 use Rattle.om_image.proofs.Spelled.{object_length, table_read, object_back, table_length, TableReads, table_reads, slot_length, SlotReads, slot_back, extent_length, extent_back, source_length, SourceReads, source_back}
 

@@ -1,10 +1,7 @@
 -- What is known of bytes that are a map.
-use Rattle.std.proofs.Common.{◌≡◌, ◌<◌, ◌≤◌, ◌+◌, ℕ, Bool, true, List, length}
-use Rattle.std.specs.Prelude.{◌&&◌, ◌==◌, nat_le, bytes_eq}
-use Rattle.om_fields.specs.Places.{bytes_at}
+use Rattle.std.proofs.Common.{◌≡◌, ◌≤◌, ℕ, true, List, length}
 use Rattle.om_image.specs.declared.part.Part.TheVariants.{Object, Table, Slot, Extent, Word}
-use Rattle.om_image.specs.Written.{mark}
-use Rattle.om_image.specs.MapFields.{objects_in, tables_in, slots_in, regions_in, words_in, tables_at, slots_at, regions_at, words_at, map_end, object_words, are_fine, is_marked, holds_tables, is_filled, is_map}
+use Rattle.om_image.specs.MapFields.{objects_in, tables_in, slots_in, regions_in, words_in, tables_at, slots_at, regions_at, words_at, map_end, object_words, are_fine, is_map}
 use Rattle.om_image.proofs.Deciding.{both_of, le_of, eq_of}
 
 pub record MapFacts (count : ℕ) (b : List ℕ) : Type 0 where

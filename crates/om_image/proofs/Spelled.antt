@@ -1,7 +1,7 @@
 -- What is read of the items of a written map.
-use Rattle.std.proofs.Common.{◌≡◌, ◌<◌, ◌≤◌, ◌+◌, ◌*◌, ◌/◌, ◌%◌, ◌^◌, ℕ, Bool, true, false, List, [], ◌∷◌, ◌++◌, length, refl, sym, ap, ◌∙◌, length-append, arith}
+use Rattle.std.proofs.Common.{◌≡◌, ◌<◌, ◌+◌, ◌/◌, ◌%◌, ◌^◌, ℕ, Bool, true, false, List, [], ◌++◌, length, refl, sym, ap, ◌∙◌, length-append, arith}
 use Rattle.std.specs.Prelude.{slice_index, ◌&&◌, ◌==◌, if◌then◌else◌, nat_lt}
-use Rattle.byteorder.specs.Endian.{little_from, little_bytes}
+use Rattle.byteorder.specs.Endian.{little_from}
 use Rattle.byteorder.specs.Numbers.{little_number-reads_back}
 use Rattle.om_fields.specs.Places.{number_at}
 use Rattle.om_image.specs.declared.map.Place.{Place}

@@ -1,31 +1,28 @@
 -- What is read of a file that breaks no rule is a valid image.
-use Rattle.std.proofs.Common.{◌≡◌, ◌<◌, ◌≤◌, ◌+◌, ◌-◌, ◌*◌, ◌/◌, ◌%◌, ◌^◌, ℕ, zero, suc, Bool, true, false, List, [], ◌∷◌, ◌++◌, length, get_or, take, drop, lit<, refl, sym, ap, ◌∙◌, subst, arith}
-use Rattle.std.specs.Prelude.{All, sum_by, slice_index, slice_index_or, ◌&&◌, ◌||◌, ◌==◌, not, is_some, is_none, if◌then◌else◌, nat_lt, Option, Some, None}
+use Rattle.std.proofs.Common.{◌≡◌, ◌<◌, ◌≤◌, ◌+◌, ◌*◌, ◌/◌, ◌%◌, ◌^◌, ℕ, zero, suc, Bool, true, false, List, [], ◌∷◌, length, get_or, take, drop, lit<, refl, sym, ap, ◌∙◌, subst, arith}
+use Rattle.std.specs.Prelude.{All, sum_by, slice_index, slice_index_or, ◌&&◌, ◌==◌, is_some, is_none, if◌then◌else◌, nat_lt, Option, Some, None}
 use Rattle.std.proofs.lemmas.List.Sums.{sum_by-append}
 use Rattle.std.proofs.lemmas.List.{length-take}
 use Rattle.byteorder.specs.Numbers.{little_from-lt}
 use Rattle.om_fields.specs.Bytes.{words_at}
-use Rattle.om_fields.specs.Places.{number_at, bytes_at, each_from, each}
+use Rattle.om_fields.specs.Places.{number_at, bytes_at, each}
 use Rattle.om_fields.proofs.Each.{each_from-snoc, each_from-get, each_from-length}
 use Rattle.om_fields.proofs.Numbers.{length-words_at}
 use Rattle.om_isa.specs.Words.{instr_of}
 use Rattle.om_image.specs.declared.image.Image.{Image}
-use Rattle.om_image.specs.declared.map.Place.{Place}
 use Rattle.om_image.specs.declared.map.Region.TheVariants.{Sec, Common, Stack}
 use Rattle.om_image.specs.declared.map.Target.{Target}
 use Rattle.om_image.specs.declared.map.Target.TheVariants.{Num, Ptr, Code}
-use Rattle.om_image.specs.declared.map.MapTable.{MapTable}
-use Rattle.om_image.specs.declared.part.Part.TheVariants.{Object, Table, Slot, Extent, Word}
-use Rattle.om_image.specs.declared.part.HeadRule.TheVariants.{Inside, Placed}
+use Rattle.om_image.specs.declared.part.Part.TheVariants.{Object, Slot, Extent, Word}
 use Rattle.om_image.specs.Layout.{text_base, text_limit, data_limit}
-use Rattle.om_image.specs.Written.{slot_count, map_size}
-use Rattle.om_image.specs.MapFields.{sum_below, objects_in, tables_in, slots_in, slots_of, slots_before, slots_at, tables_at as tables_start, regions_in, regions_at, words_in, words_at as words_start, is_map, map_of, object_at, slot_at, table_at, map_region_at, source_at, region_by, target_by, code_place, region_at, is_region, is_slot, is_fine, is_fine_slot, is_fine_region, is_fine_word, map_end, object_words}
-use Rattle.om_image.specs.Rules.{section_size, section_place, section_bytes, breaks_head, is_uneven, is_oversized, is_entry, is_unreadable, image_of}
+use Rattle.om_image.specs.Written.{slot_count}
+use Rattle.om_image.specs.MapFields.{sum_below, objects_in, tables_in, slots_in, slots_of, slots_before, slots_at, tables_at as tables_start, regions_in, regions_at, words_in, words_at as words_start, is_map, map_of, object_at, slot_at, table_at, map_region_at, source_at, region_by, code_place, region_at, is_region, is_fine, is_fine_slot, is_fine_region}
+use Rattle.om_image.specs.Rules.{section_size, section_place, section_bytes, is_uneven, is_entry, is_unreadable, image_of}
 use Rattle.om_image.specs.Shapes.{IsReadable}
 use Rattle.om_image.specs.Valid.{IsInMap, IsSlot, IsMap, IsValidImage}
 use Rattle.om_image.proofs.Below.{all_each, sum_above}
 use Rattle.om_image.proofs.Deciding.{both_of, neither_of, not_false, lt_of, not_lt_of, le_of, eq_of}
-use Rattle.om_image.proofs.MapFacts.{MapFacts, map_facts}
+use Rattle.om_image.proofs.MapFacts.{map_facts}
 
 -- ---- lists of what stands at each index
 

@@ -1,5 +1,5 @@
 -- The fields of a map's bytes, and whether they are a map of an image with so many words.
-use Rattle.std.specs.Prelude.{ℕ, zero, suc, ◌+◌, ◌*◌, ◌/◌, ◌%◌, ◌^◌, Bool, true, false, ◌&&◌, ◌==◌, if◌then◌else◌, nat_lt, nat_le, List, length, bytes_eq, slice_index}
+use Rattle.std.specs.Prelude.{ℕ, zero, suc, ◌+◌, ◌*◌, ◌/◌, ◌%◌, ◌^◌, Bool, true, ◌&&◌, ◌==◌, if◌then◌else◌, nat_lt, nat_le, List, length, bytes_eq, slice_index}
 use Rattle.om_fields.specs.Places.{number_at, bytes_at, each}
 use Rattle.om_image.specs.declared.map.Place.{Place}
 use Rattle.om_image.specs.declared.map.Region.{Region}

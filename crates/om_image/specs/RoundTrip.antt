@@ -8,7 +8,6 @@ use Rattle.om_image.specs.declared.map.Target.TheVariants.{Num, Ptr, Code}
 use Rattle.om_image.specs.declared.map.MapObj.{MapObj}
 use Rattle.om_image.specs.declared.map.MapTable.{MapTable}
 use Rattle.om_image.specs.declared.map.MapRegion.{MapRegion}
-use Rattle.om_image.specs.declared.map.MapWord.{MapWord}
 use Rattle.om_image.specs.declared.map.Map.{Map}
 use Rattle.om_image.specs.declared.image.Image.{Image}
 use Rattle.om_image.specs.Written.{file_of}

@@ -11,7 +11,8 @@ use Rattle.om_image.specs.declared.map.Target.TheVariants.{Num, Ptr, Code}
 use Rattle.om_image.specs.Written.{file_of, image_headers, image_body, map_bytes, map_head, key_bytes, object_bytes, table_bytes, slot_bytes, region_bytes, source_bytes}
 use Rattle.om_image.specs.Rules.{image_rules, image_of}
 
--- `lda r0,1(r31)`, `lda r16,7(r31)` and `callsys`, which end with the status 7; all words are kept, and the one table is empty
+-- `lda r0,1(r31)`, `lda r16,7(r31)` and `callsys`, which end with the status 7; all words are kept, and the one table
+-- is empty
 abbrev pub exit_seven : Image
 exit_seven = record {
   entry = 0x120000000;

@@ -1,7 +1,7 @@
 -- The image that a file holds, and the rules on the files of images, each as the places where it is broken: byte offsets in
 -- the file. The headers are those of the ECOFF object format, with the entry at 32 and the GP value at 72 of the optional
 -- header; the sections are `.text`, `.data`, `.bss` and `.ommap`.
-use Rattle.std.specs.Prelude.{ℕ, zero, suc, ◌+◌, ◌*◌, ◌/◌, ◌%◌, Bool, false, not, ◌&&◌, ◌||◌, ◌==◌, if◌then◌else◌, nat_lt, nat_le, is_none, List, [], ◌∷◌, ◌++◌, length, bytes_eq}
+use Rattle.std.specs.Prelude.{ℕ, ◌+◌, ◌*◌, ◌/◌, ◌%◌, Bool, not, ◌&&◌, ◌||◌, ◌==◌, if◌then◌else◌, nat_lt, nat_le, is_none, List, [], ◌∷◌, ◌++◌, length, bytes_eq}
 use Rattle.om_fields.specs.Bytes.{words_at}
 use Rattle.om_fields.specs.Places.{number_at, bytes_at, picked, place_if, is_past}
 use Rattle.om_fields.specs.Rules.{Rule}

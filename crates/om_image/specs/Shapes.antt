@@ -1,6 +1,6 @@
 -- How many items the parts of a map have, and what is known of a file that breaks no rule.
-use Rattle.std.specs.Prelude.{◌≡◌, ℕ, ◌/◌, ◌%◌, ◌<◌, ◌≤◌, true, false, List, length}
-use Rattle.om_fields.specs.Places.{number_at, is_past}
+use Rattle.std.specs.Prelude.{◌≡◌, ℕ, ◌/◌, ◌<◌, ◌≤◌, true, false, List, length}
+use Rattle.om_fields.specs.Places.{number_at}
 use Rattle.om_image.specs.declared.part.HeadRule.TheVariants.{Inside, Placed}
 use Rattle.om_image.specs.declared.shape.Shape.{Shape}
 use Rattle.om_image.specs.MapFields.{objects_in, tables_in, slots_in, regions_in, words_in, is_map}

@@ -114,7 +114,8 @@ bss_name = padded (codes ".bss")
 abbrev pub map_name : List ℕ
 map_name = padded (codes ".ommap")
 
--- the text's bytes follow the headers, the data's follow the text's, and the map comes last, each at the next multiple of 16
+-- the text's bytes follow the headers, the data's follow the text's, and the map comes last, each at the next multiple
+-- of 16
 abbrev pub text_place : ℕ
 text_place = 368
 

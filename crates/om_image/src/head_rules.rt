@@ -216,8 +216,8 @@ fn other_section(bytes: &[u8]) -> Option<u64>
     first_head(bytes, HeadRule::Named)
 }
 
-/// The first fault by the rules 1 to 4: the least broken rule and its least place. Where there is none, there are four section
-/// headers.
+/// The first fault by the rules 1 to 4: the least broken rule and its least place. Where there is none, there are four
+/// section headers.
 pub fn head_fault(bytes: &[u8]) -> Option<(u8, u64)>
     ensures gives { result ≡ first_fault head_rules bytes.now }
     ensures long { IfNone result (360 ≤ length bytes.now) }

@@ -55,8 +55,8 @@ pub struct MapWord {
     pub kept: bool,
 }
 
-/// Where everything of the source went: its objects, the tables and regions of the data, and each word of the source in order
-/// of object and offset.
+/// Where everything of the source went: its objects, the tables and regions of the data, and each word of the source in
+/// order of object and offset.
 #[derive(Drop, Debug)]
 pub struct Map {
     pub objects: Listed<MapObj>,

@@ -10,7 +10,8 @@ pub enum Part {
     Word,
 }
 
-/// A rule that is tested at each section header by itself: its name, that its bytes lie in the file, and its address and size.
+/// A rule that is tested at each section header by itself: its name, that its bytes lie in the file, and its address
+/// and size.
 #[derive(Clone, Copy, PartialEq, Eq, Debug)]
 pub enum HeadRule {
     Named,

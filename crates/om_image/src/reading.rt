@@ -140,15 +140,16 @@ fn image_in(alloc: Global, bytes: &[u8]) -> Result<Image, NoMemory>
     })
 }
 
-/// The image in a file that breaks no rule of images, or the least broken rule with its least place, a byte offset in the file.
+/// The image in a file that breaks no rule of images, or the least broken rule with its least place, a byte offset in
+/// the file.
 ///
-/// Rules 1 to 3 are those of object files: the file header with its magic number, the optional header's size, and room for the
-/// section headers (places 0, 20, 24). Rule 4: another number of sections than four (place 2), or another name than `.text`,
-/// `.data`, `.bss` and `.ommap` in this order. Rule 5: bytes run past the end. Rule 6: an address is not 0x1_2000_0000,
-/// 0x1_4000_0000, the end of the data's bytes, or 0; the text's size is no multiple of 4 or above 16,777,216; or the sizes of
-/// `.data` and `.bss` together, at `.data`, are above 67,108,864. These have the place of the section's header. Rule 7: the
-/// entry is no word of the text (place 56). Rule 8: the map is none of this image (the place of its bytes). Rule 9: a word of
-/// the text is no instruction (its place).
+/// Rules 1 to 3 are those of object files: the file header with its magic number, the optional header's size, and room
+/// for the section headers (places 0, 20, 24). Rule 4: another number of sections than four (place 2), or another name
+/// than `.text`, `.data`, `.bss` and `.ommap` in this order. Rule 5: bytes run past the end. Rule 6: an address is not
+/// 0x1_2000_0000, 0x1_4000_0000, the end of the data's bytes, or 0; the text's size is no multiple of 4 or above
+/// 16,777,216; or the sizes of `.data` and `.bss` together, at `.data`, are above 67,108,864. These have the place of
+/// the section's header. Rule 7: the entry is no word of the text (place 56). Rule 8: the map is none of this image
+/// (the place of its bytes). Rule 9: a word of the text is no instruction (its place).
 ///
 /// The image is valid. What its map says of the source is not tested. It takes time linear in the file, and memory for what
 /// the image holds, once no rule is broken.

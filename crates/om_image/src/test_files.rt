@@ -66,8 +66,8 @@ pub fn three_words(alloc: Global) -> Result<Vec<u8>, NoMemory> {
     Ok(file)
 }
 
-/// An image of one word and 9 bytes of data, of 648 bytes: two objects, two tables with a slot of each kind, two regions, and a
-/// word that is gone.
+/// An image of one word and 9 bytes of data, of 648 bytes: two objects, two tables with a slot of each kind, two
+/// regions, and a word that is gone.
 pub fn all_kinds(alloc: Global) -> Result<Vec<u8>, NoMemory> {
     let mut file = headers(alloc, [4, 9], [0x80, 1], [248, 0, 0x90, 0x01])?;
     let pieces: [(usize, &[u8]); 15] = [

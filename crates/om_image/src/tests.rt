@@ -222,8 +222,8 @@ fn names_the_least_of_two(rt: HostRuntime) -> Result<(), Fail> {
     Ok(())
 }
 
-// A number's name, section and zero; a pointer's kinds, sections and zeros; a code's section, zero and offset; a region's kinds,
-// sections and zeros; a table's number, and a position.
+// A number's name, section and zero; a pointer's kinds, sections and zeros; a code's section, zero and offset; a
+// region's kinds, sections and zeros; a table's number, and a position.
 #[test]
 fn names_the_map_of_other_kinds(rt: HostRuntime) -> Result<(), Fail> {
     let bytes: [(usize, u8); 24] = [

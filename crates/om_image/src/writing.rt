@@ -118,12 +118,12 @@ fn file_bytes(alloc: Global, i: &Image) -> Result<Bytes, NoMemory>
     Ok(Bytes::from_vec(out))
 }
 
-/// The file of a valid image, in the ECOFF object format: the headers, with the sections `.text`, `.data`, `.bss` and `.ommap`;
-/// then the words, the data's bytes and the map, each at the next multiple of 16. A section without bytes has offset 0; the
-/// physical addresses and the fields that are not named are 0.
+/// The file of a valid image, in the ECOFF object format: the headers, with the sections `.text`, `.data`, `.bss` and
+/// `.ommap`; then the words, the data's bytes and the map, each at the next multiple of 16. A section without bytes has
+/// offset 0; the physical addresses and the fields that are not named are 0.
 ///
-/// The file breaks no rule of images, and what is read of it is the image. It takes memory once, for the file, and time linear
-/// in it. `NoMemory` says nothing of the image.
+/// The file breaks no rule of images, and what is read of it is the image. It takes memory once, for the file, and time
+/// linear in it. `NoMemory` says nothing of the image.
 pub fn write_image(alloc: Global, i: &Image) -> Result<Bytes, NoMemory>
     requires { IsValidImage i.now }
     ensures file { IfOk result (λ file. file ≡ file_of i.now) }

@@ -1,4 +1,4 @@
-use Rattle.std.proofs.Common.{◌≡◌, ◌<◌, true, false, sym, arith}
+use Rattle.std.proofs.Common.{◌≡◌, true, sym, arith}
 use Rattle.om_fields.proofs.Picked.{picked-first}
 use Rattle.om_fields.proofs.Heads.{headers-rise}
 use Rattle.om_fields.specs.HeaderFields.{header_at}

@@ -1,4 +1,4 @@
-use Rattle.std.proofs.Common.{◌≡◌, ◌<◌, true, false, sym, arith}
+use Rattle.std.proofs.Common.{◌≡◌, false, sym, arith}
 use Rattle.om_image.specs.MapFields.{is_fine}
 use Rattle.om_image.proofs.Below.{all_true, all_fails}
 use Rattle.om_image.proofs.map_rules.are_fine.Goals as goal

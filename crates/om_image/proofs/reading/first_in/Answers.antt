@@ -1,4 +1,4 @@
-use Rattle.std.proofs.Common.{◌≡◌, ◌<◌, ◌+◌, ◌*◌, ◌/◌, true, false, length, sym, arith}
+use Rattle.std.proofs.Common.{◌≡◌, ◌+◌, ◌*◌, ◌/◌, true, length, sym, arith}
 use Rattle.om_fields.proofs.Picked.{Rises, picked-first, picked-none}
 use Rattle.om_image.specs.Rules.{is_unreadable}
 use Rattle.om_image.proofs.reading.first_in.Goals as goal

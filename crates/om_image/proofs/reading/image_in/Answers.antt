@@ -1,6 +1,6 @@
 use Rattle.std.proofs.Common.{◌≡◌, ◌≤◌, subst, sym, length}
 use Rattle.om_image.specs.MapFields.{map_end}
-use Rattle.om_image.specs.Rules.{section_bytes, section_size}
+use Rattle.om_image.specs.Rules.{section_bytes}
 use Rattle.om_image.proofs.MapFacts.{map_facts}
 use Rattle.om_image.proofs.reading.image_in.Goals as goal
 

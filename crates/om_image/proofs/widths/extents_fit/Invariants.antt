@@ -1,4 +1,4 @@
-use Rattle.std.proofs.Common.{ℕ, ◌<◌, ◌^◌, slice_index_or}
+use Rattle.std.proofs.Common.{ℕ, ◌<◌, slice_index_or}
 use Rattle.om_image.specs.declared.map.MapRegion.{MapRegion}
 use Rattle.om_image.specs.RoundTrip.{HasExtentWidths}
 use Rattle.om_image.proofs.widths.extents_fit.Given as goal

@@ -1,4 +1,4 @@
-use Rattle.std.proofs.Common.{ℕ, ◌<◌, ◌^◌, slice_index_or}
+use Rattle.std.proofs.Common.{ℕ, ◌<◌, slice_index_or}
 use Rattle.om_image.specs.declared.map.MapObj.{MapObj}
 use Rattle.om_image.specs.RoundTrip.{HasObjWidths}
 use Rattle.om_image.proofs.widths.objects_fit.Given as goal

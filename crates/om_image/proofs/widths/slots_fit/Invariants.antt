@@ -1,4 +1,4 @@
-use Rattle.std.proofs.Common.{ℕ, ◌<◌, ◌^◌, slice_index_or}
+use Rattle.std.proofs.Common.{ℕ, ◌<◌, slice_index_or}
 use Rattle.om_image.specs.declared.map.Target.{Target}
 use Rattle.om_image.specs.RoundTrip.{HasTargetWidths}
 use Rattle.om_image.proofs.widths.slots_fit.Given as goal

@@ -1,4 +1,4 @@
-use Rattle.std.proofs.Common.{ℕ, ◌<◌, ◌^◌, slice_index_or}
+use Rattle.std.proofs.Common.{ℕ, ◌<◌, slice_index_or}
 use Rattle.om_image.specs.declared.map.MapTable.{MapTable}
 use Rattle.om_image.specs.RoundTrip.{HasTableWidths}
 use Rattle.om_image.proofs.widths.tables_fit.Given as goal
