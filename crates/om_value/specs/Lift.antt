@@ -3,11 +3,11 @@
 -- handbook's operation gives at every address that the operands may have, where regions start at multiples of
 -- 16 at or above 0x10000, do not overlap and end below 2 ^ 63. Where no rule has a value, neither has the
 -- operation: its result would show an address.
-use Rattle.std.specs.Prelude.{ℕ, ◌+◌, ◌%◌, ◌^◌, Bool, true, false, not, ◌&&◌, ◌||◌, ◌==◌, nat_lt, nat_le, if◌then◌else◌, bit_and, ℤ, pos, Option, Some, None}
+use Rattle.std.specs.Prelude.{ℕ, ◌%◌, Bool, true, false, not, ◌&&◌, ◌||◌, ◌==◌, nat_lt, nat_le, if◌then◌else◌, bit_and, ℤ, Option, Some, None}
 use Rattle.std.specs.Option.{option_or}
 use Rattle.std.specs.Int.{w64, cast_unsigned, bit_not}
-use Rattle.om_alpha.specs.declared.op.Width.TheVariants.{Long, Quad}
-use Rattle.om_alpha.specs.declared.op.Scale.TheVariants.{One, Four, Eight}
+use Rattle.om_alpha.specs.declared.op.Width.TheVariants.{Quad}
+use Rattle.om_alpha.specs.declared.op.Scale.TheVariants.{One}
 use Rattle.om_alpha.specs.declared.op.Cmp.{Cmp}
 use Rattle.om_alpha.specs.declared.op.Cmp.TheVariants as cmp
 use Rattle.om_alpha.specs.declared.op.AluOp.{AluOp}
@@ -19,7 +19,7 @@ use Rattle.om_value.specs.declared.value.Region.{Region}
 use Rattle.om_value.specs.declared.value.Target.{Target}
 use Rattle.om_value.specs.declared.value.Target.TheVariants as target
 use Rattle.om_value.specs.declared.value.Value.{Value}
-use Rattle.om_value.specs.declared.value.Value.TheVariants.{Num, Ptr, Code, Gp, Half, GpOff}
+use Rattle.om_value.specs.declared.value.Value.TheVariants.{Num, Ptr, Code, Gp, GpOff}
 use Rattle.om_value.specs.Same.{place_eq, region_eq, value_eq}
 
 abbrev pub when : {A : Type 0} → Bool → A → Option A

@@ -1,17 +1,15 @@
 -- Worked rows of the rules, and beside each a case that has no value.
-use Rattle.std.specs.Prelude.{◌≡◌, ℕ, ◌-◌, ◌^◌, pos, negsuc, true, false, Some, None, refl}
+use Rattle.std.specs.Prelude.{◌≡◌, ◌^◌, pos, negsuc, true, false, Some, None, refl}
 use Rattle.om_alpha.specs.declared.op.Width.TheVariants.{Long, Quad}
 use Rattle.om_alpha.specs.declared.op.Scale.TheVariants.{One, Four, Eight}
 use Rattle.om_alpha.specs.declared.op.Cmp.TheVariants as cmp
 use Rattle.om_alpha.specs.declared.op.Size.TheVariants as size
-use Rattle.om_alpha.specs.declared.op.Wide.TheVariants as wide
-use Rattle.om_alpha.specs.declared.op.AluOp.TheVariants.{Add, Sub, Mul, AddV, And, Bis, Xor, Bic, Ornot, Srl, Compare, Sextb, ExtLow, InsHigh, MskLow}
+use Rattle.om_alpha.specs.declared.op.AluOp.TheVariants.{Add, Sub, And, Bis, Xor, Bic, Srl, Compare, Sextb, ExtLow, MskLow}
 use Rattle.om_alpha.specs.declared.op.Cond.TheVariants as cond
 use Rattle.om_value.specs.declared.value.Place.{Place}
 use Rattle.om_value.specs.declared.value.Region.{Region}
 use Rattle.om_value.specs.declared.value.Region.TheVariants.{Sec, Common, Stack, Heap}
 use Rattle.om_value.specs.declared.value.Target.TheVariants as target
-use Rattle.om_value.specs.declared.value.Value.{Value}
 use Rattle.om_value.specs.declared.value.Value.TheVariants.{Num, Ptr, Code, Gp, Half, GpOff}
 use Rattle.om_value.specs.Lift.{lifted, lifted_add, lifted_condition, on_numbers, moves_pointer, keeps_value, distance, compares, compares_pointers, above_small, low_bits, named_bytes, from_gp}
 
