@@ -1,0 +1,11 @@
+//! A program before it has addresses: the words of its objects with what each stands for, its regions with their
+//! initial content, and its entry; and in specs/ the symbolic machine that runs it.
+#![tactic(auto)]
+
+mod item;
+mod program;
+mod region;
+
+pub use item::{Field, Item, Role};
+pub use program::Program;
+pub use region::RegionInit;
