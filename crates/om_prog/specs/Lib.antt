@@ -1,2 +1,12 @@
 pub mod View
 pub mod Valid
+pub mod Cells
+pub mod Act
+pub mod Step
+pub mod Runs
+pub mod Script
+pub mod Flow
+pub mod Within
+pub mod Facts
+pub mod Values
+pub mod Rows

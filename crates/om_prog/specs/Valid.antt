@@ -5,12 +5,11 @@ use Rattle.std.specs.Prelude.{◌≡◌, ℕ, ◌+◌, ◌*◌, ◌%◌, ◌^◌
 use Rattle.std.specs.List.{list_any}
 use Rattle.om_isa.specs.declared.instr.Instr.{Instr}
 use Rattle.om_isa.specs.declared.instr.Instr.TheVariants.{Mem, Branch}
-use Rattle.om_isa.specs.declared.instr.MemOp.{MemOp}
 use Rattle.om_isa.specs.declared.instr.MemOp.TheVariants.{Lda, Ldah, Ldq}
 use Rattle.om_isa.specs.Words.{instr_of}
 use Rattle.om_value.specs.declared.value.Place.{Place}
 use Rattle.om_value.specs.declared.value.Region.{Region}
-use Rattle.om_value.specs.declared.value.Region.TheVariants.{Sec, Common, Stack, Heap}
+use Rattle.om_value.specs.declared.value.Region.TheVariants.{Stack, Heap}
 use Rattle.om_value.specs.declared.value.Target.{Target}
 use Rattle.om_value.specs.declared.value.Target.TheVariants as target
 use Rattle.om_value.specs.declared.value.Value.{Value}

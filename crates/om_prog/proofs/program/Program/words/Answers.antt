@@ -1,6 +1,5 @@
-use Rattle.std.proofs.Common.{◌≡◌, length, ℕ, ◌<◌, List, [], Option, Some, None, refl, sym, ap, ◌∙◌, arith}
+use Rattle.std.proofs.Common.{length, [], sym, ap, arith}
 use Rattle.std.specs.Prelude.{unwrap_or}
-use Rattle.om_prog.specs.View.{word_count}
 use Rattle.om_prog.proofs.Texts.{text_found, text_missing}
 use Rattle.om_prog.proofs.program.Program.words.Goals as goal
 
