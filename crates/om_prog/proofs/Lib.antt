@@ -1,1 +1,12 @@
 pub mod Texts
+pub mod Agree
+pub mod After
+pub mod Codes
+pub mod Goes
+pub mod Writes
+pub mod Facts
+pub mod Initial
+pub mod SameRun
+pub mod Values
+pub mod Retabled
+pub mod Stays

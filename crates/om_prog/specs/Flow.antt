@@ -1,4 +1,4 @@
--- What an effect writes, and where a word may go.
+-- What the registers are to a word, what an effect writes, and where a word may go.
 use Rattle.std.specs.Prelude.{◌≡◌, ◌⊎◌, ℕ, Bool, true, false, List, [], ◌∷◌, Option, Some, None}
 use Rattle.om_isa.specs.declared.instr.BrOp.{BrOp}
 use Rattle.om_isa.specs.declared.instr.BrOp.TheVariants.{Br, Bsr, If}
@@ -8,7 +8,17 @@ use Rattle.om_isa.specs.Effect.{Set, Jump, Stop, Calls, StepObserves}
 use Rattle.om_isa.specs.SystemCall.{Call, Exits, CallObserves}
 use Rattle.om_value.specs.declared.value.Place.{Place}
 use Rattle.om_prog.specs.Act.{Act, Plain, To, Word}
-use Rattle.om_prog.specs.Step.{SymEffect, next_place}
+use Rattle.om_value.specs.declared.value.Value.{Value}
+use Rattle.om_prog.specs.Step.{SymState, SymEffect, read_reg, next_place}
+
+-- two sets of registers agree on a list of them
+abbrev pub Agree : (ℕ → Value) → (ℕ → Value) → List ℕ → Type 0
+Agree rs ss [] = Unit {0}
+Agree rs ss (r ∷ list) = (read_reg rs r ≡ read_reg ss r) × Agree rs ss list
+
+-- a state with other registers and another place
+abbrev pub moved : SymState → (ℕ → Value) → Place → SymState
+moved s rs q = record s { regs = rs; place = q }
 
 abbrev pub Among : List ℕ → ℕ → Type 0
 Among [] x = ⊥

@@ -7,6 +7,7 @@ pub mod Runs
 pub mod Script
 pub mod Flow
 pub mod Within
+pub mod Laws
 pub mod Facts
 pub mod Values
 pub mod Rows

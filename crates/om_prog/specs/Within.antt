@@ -36,19 +36,19 @@ module _ (K : Place → Type 0) where
   abbrev pub LinkWithin : ℕ → Place → Type 0
   LinkWithin r at = (r ≡ 31) ⊎ K (next_place at)
 
-  abbrev pub branch_within : BrOp → ℕ → Place → Type 0
-  branch_within (If k) ra at = Unit {0}
-  branch_within op ra at = LinkWithin ra at
+  abbrev pub BranchWithin : BrOp → ℕ → Place → Type 0
+  BranchWithin (If k) ra at = Unit {0}
+  BranchWithin op ra at = LinkWithin ra at
 
-  abbrev pub plain_within : Instr → Place → Type 0
-  plain_within (Jumps kind ra rb hint) at = LinkWithin ra at
-  plain_within _ at = Unit {0}
+  abbrev pub PlainWithin : Instr → Place → Type 0
+  PlainWithin (Jumps kind ra rb hint) at = LinkWithin ra at
+  PlainWithin _ at = Unit {0}
 
   -- what a word brings in
   abbrev pub ActWithin : Place → Act → Type 0
-  ActWithin at (Plain i) = plain_within i at
+  ActWithin at (Plain i) = PlainWithin i at
   ActWithin at (Lit ra rb t) = TargetWithin t
-  ActWithin at (To op ra q) = branch_within op ra at
+  ActWithin at (To op ra q) = BranchWithin op ra at
   ActWithin at (AddrLda ra rb t) = TargetWithin t
   ActWithin at (UseLo i hi t) = TargetWithin t
   ActWithin at (UseGp i gp t) = TargetWithin t

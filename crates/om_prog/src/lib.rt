@@ -3,9 +3,14 @@
 #![tactic(auto)]
 
 mod item;
+mod laws;
 mod program;
 mod region;
 
 pub use item::{Field, Item, Role};
+pub use laws::{
+    codes_stay, effects_depend_on_reads, same_words_same_run, steps_lead,
+    words_write_their_registers,
+};
 pub use program::Program;
 pub use region::RegionInit;
