@@ -10,3 +10,4 @@ pub mod SameRun
 pub mod Values
 pub mod Retabled
 pub mod Stays
+pub mod Keyed

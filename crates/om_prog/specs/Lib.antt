@@ -11,3 +11,4 @@ pub mod Laws
 pub mod Facts
 pub mod Values
 pub mod Rows
+pub mod Keys

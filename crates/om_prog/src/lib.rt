@@ -3,6 +3,7 @@
 #![tactic(auto)]
 
 mod item;
+mod keys;
 mod laws;
 mod program;
 mod region;

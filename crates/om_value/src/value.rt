@@ -1,7 +1,7 @@
 // Places, regions, targets and values.
 
 /// A byte offset in the text of an object.
-#[derive(Clone, Copy, PartialEq, Eq, Debug)]
+#[derive(Clone, Copy, PartialEq, Eq, PartialOrd, Ord, Debug)]
 pub struct Place {
     /// The object's number, from 0.
     pub obj: u32,
@@ -10,7 +10,7 @@ pub struct Place {
 }
 
 /// What stands together in memory; how two regions lie to each other is nowhere said.
-#[derive(Clone, Copy, PartialEq, Eq, Debug)]
+#[derive(Clone, Copy, PartialEq, Eq, PartialOrd, Ord, Debug)]
 pub enum Region {
     /// A section of an object, other than its text and its address table.
     Sec {
@@ -31,7 +31,7 @@ pub enum Region {
 }
 
 /// What a slot of an address table, or an offset from its start, leads to.
-#[derive(Clone, Copy, PartialEq, Eq, Debug)]
+#[derive(Clone, Copy, PartialEq, Eq, PartialOrd, Ord, Debug)]
 pub enum Target {
     /// A number.
     Num(u64),
