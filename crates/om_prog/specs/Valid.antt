@@ -1,7 +1,7 @@
 -- When words, regions and an entry are a program: each place that is named is a word, each region is there, each
 -- word has the instruction and a role that may stand on it, and fields lie apart. Which roles there are follows
 -- the relocations of the ECOFF object format; that an address table has at most 8192 slots is this project's own.
-use Rattle.std.specs.Prelude.{◌≡◌, ℕ, ◌+◌, ◌*◌, ◌%◌, ◌^◌, ◌<◌, ◌≤◌, Bool, true, false, ◌&&◌, ◌==◌, nat_lt, nat_le, is_some, if◌then◌else◌, List, [], ◌∷◌, ◌++◌, length, filter_map, count_by, All, AllPairs, slice_get, Option, Some, None, IsTrue, IsFalse}
+use Rattle.std.specs.Prelude.{◌≡◌, ℕ, ◌+◌, ◌*◌, ◌%◌, ◌^◌, ◌<◌, ◌≤◌, Bool, true, false, not, ◌&&◌, ◌==◌, nat_lt, nat_le, is_some, if◌then◌else◌, List, [], ◌∷◌, ◌++◌, length, filter_map, count_by, slice_get, Option, Some, None}
 use Rattle.std.specs.List.{list_any}
 use Rattle.om_isa.specs.declared.instr.Instr.{Instr}
 use Rattle.om_isa.specs.declared.instr.Instr.TheVariants.{Mem, Branch}
@@ -22,6 +22,12 @@ use Rattle.om_prog.specs.declared.item.Field.{Field}
 use Rattle.om_prog.specs.declared.region.RegionInit.{RegionInit}
 use Rattle.om_prog.specs.View.{ProgramView, item_at, is_word, init_of}
 
+-- no region is given twice
+pub record AreOnce (regions : List RegionInit) : Type 0 where
+  pub apart :
+    (j k : ℕ) (a b : RegionInit) → j < k → slice_get regions j ≡ Some a → slice_get regions k ≡ Some b →
+    region_eq a.region b.region ≡ false
+
 -- ---- roles
 
 abbrev pub target_of_role : Role → Option Target
@@ -34,7 +40,7 @@ literal_of i = target_of_role i.role
 
 -- a list without what stands in it before, in order
 abbrev pub with_target : List Target → Target → List Target
-with_target ts t = if list_any (target_eq t) ts then ts else ts ++ t ∷ []
+with_target ts t = if list_any (λ u. target_eq u t) ts then ts else ts ++ t ∷ []
 
 abbrev pub distinct_onto : List Target → List Target → List Target
 distinct_onto seen [] = seen
@@ -127,20 +133,25 @@ module _ (p : ProgramView) where
     pub inside : f.off + f.width ≤ size
 
   -- two fields have no byte of both
-  abbrev pub AreApart : Field → Field → Type 0
-  AreApart f g = IsFalse (nat_lt f.off (g.off + g.width) && nat_lt g.off (f.off + f.width))
+  abbrev pub are_apart : Field → Field → Bool
+  are_apart f g = not (nat_lt f.off (g.off + g.width) && nat_lt g.off (f.off + f.width))
+
+  pub record AreFields (size : ℕ) (fields : List Field) : Type 0 where
+    pub each : (k : ℕ) (f : Field) → slice_get fields k ≡ Some f → IsField size f
+    pub apart :
+        (j k : ℕ) (f g : Field) → j < k → slice_get fields j ≡ Some f → slice_get fields k ≡ Some g →
+        are_apart f g ≡ true
 
   pub record IsRegionInit (i : RegionInit) : Type 0 where
-    pub given : IsTrue (is_given i.region)
+    pub given : is_given i.region ≡ true
     pub even : i.size % 8 ≡ 0
     pub bytes : length i.bytes ≤ i.size
-    pub zero : IsTrue i.zero → (i.bytes ≡ []) × (i.fields ≡ [])
-    pub fields : All (IsField i.size) i.fields
-    pub apart : AllPairs AreApart i.fields
+    pub zero : i.zero ≡ true → (length i.bytes ≡ 0) × (length i.fields ≡ 0)
+    pub fields : AreFields i.size i.fields
 
   pub record IsProgram : Type 0 where
     pub objects : length p.texts < 2 ^ 32
     pub texts : (obj : ℕ) (text : List Item) → slice_get p.texts obj ≡ Some text → IsText obj text
-    pub entry : IsTrue (is_word p p.entry)
-    pub regions : All IsRegionInit p.regions
-    pub once : AllPairs (λ i j. IsFalse (region_eq i.region j.region)) p.regions
+    pub entry : is_word p p.entry ≡ true
+    pub regions : (k : ℕ) (i : RegionInit) → slice_get p.regions k ≡ Some i → IsRegionInit i
+    pub once : AreOnce p.regions

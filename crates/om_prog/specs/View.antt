@@ -23,12 +23,15 @@ text_of p obj = unwrap_or (slice_get p.texts obj) []
 abbrev pub word_count : ProgramView → ℕ → ℕ
 word_count p obj = length (text_of p obj)
 
--- the word at a place, if it is one
-abbrev pub item_at : ProgramView → Place → Option Item
-item_at p at =
+-- the word at a place of these texts, if it is one
+abbrev pub item_in : List (List Item) → Place → Option Item
+item_in texts at =
     if at.off % 4 == 0
-    then option_and_then (λ text. slice_get text (at.off / 4)) (slice_get p.texts at.obj)
+    then option_and_then (λ text. slice_get text (at.off / 4)) (slice_get texts at.obj)
     else None
+
+abbrev pub item_at : ProgramView → Place → Option Item
+item_at p at = item_in p.texts at
 
 abbrev pub is_word : ProgramView → Place → Bool
 is_word p at = is_some (item_at p at)
