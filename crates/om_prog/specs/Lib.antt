@@ -12,3 +12,4 @@ pub mod Facts
 pub mod Values
 pub mod Rows
 pub mod Keys
+pub mod Known

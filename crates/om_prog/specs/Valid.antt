@@ -25,8 +25,8 @@ use Rattle.om_prog.specs.View.{ProgramView, item_at, is_word, init_of}
 -- no region is given twice
 pub record AreOnce (regions : List RegionInit) : Type 0 where
   pub apart :
-    (j k : ℕ) (a b : RegionInit) → j < k → slice_get regions j ≡ Some a → slice_get regions k ≡ Some b →
-    region_eq a.region b.region ≡ false
+      (j k : ℕ) (a b : RegionInit) → j < k → slice_get regions j ≡ Some a → slice_get regions k ≡ Some b →
+      region_eq a.region b.region ≡ false
 
 -- ---- roles
 

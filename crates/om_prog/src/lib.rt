@@ -4,9 +4,11 @@
 
 mod item;
 mod keys;
+mod known;
 mod laws;
 mod program;
 mod region;
+mod words;
 
 pub use item::{Field, Item, Role};
 pub use laws::{

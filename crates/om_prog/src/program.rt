@@ -5,6 +5,7 @@ ghost use Rattle.om_prog.specs.Valid.{IsProgram as IsAProgram};
 
 use crate::item::Item;
 use crate::region::RegionInit;
+use crate::words::word_at;
 use om_value::Place;
 use std::marker::Model;
 
@@ -51,11 +52,7 @@ impl Program {
     pub fn item(&self, p: Place) -> Option<Item>
         ensures { result ≡ item_at self.now p }
     {
-        if p.off % 4 != 0 {
-            return None;
-        }
-        let text = self.texts.get(p.obj as usize)?;
-        text.get((p.off / 4) as usize).copied()
+        word_at(&self.texts, p)
     }
 
     /// Its regions with their initial content, each once, without the stack and the heap.
