@@ -11,3 +11,4 @@ pub mod Values
 pub mod Retabled
 pub mod Stays
 pub mod Keyed
+pub mod Found

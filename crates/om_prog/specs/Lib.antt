@@ -13,3 +13,4 @@ pub mod Values
 pub mod Rows
 pub mod Keys
 pub mod Known
+pub mod Making

@@ -1,7 +1,7 @@
 -- When words, regions and an entry are a program: each place that is named is a word, each region is there, each
 -- word has the instruction and a role that may stand on it, and fields lie apart. Which roles there are follows
 -- the relocations of the ECOFF object format; that an address table has at most 8192 slots is this project's own.
-use Rattle.std.specs.Prelude.{◌≡◌, ℕ, ◌+◌, ◌*◌, ◌%◌, ◌^◌, ◌<◌, ◌≤◌, Bool, true, false, not, ◌&&◌, ◌==◌, nat_lt, nat_le, is_some, if◌then◌else◌, List, [], ◌∷◌, ◌++◌, length, filter_map, count_by, slice_get, Option, Some, None}
+use Rattle.std.specs.Prelude.{◌≡◌, ℕ, ◌+◌, ◌*◌, ◌%◌, ◌^◌, ◌<◌, ◌≤◌, Bool, true, false, not, ◌&&◌, ◌==◌, nat_lt, nat_le, is_some, if◌then◌else◌, List, [], ◌∷◌, ◌++◌, length, count_by, slice_get, Option, Some, None}
 use Rattle.std.specs.List.{list_any}
 use Rattle.om_isa.specs.declared.instr.Instr.{Instr}
 use Rattle.om_isa.specs.declared.instr.Instr.TheVariants.{Mem, Branch}
@@ -38,20 +38,21 @@ target_of_role _ = None
 abbrev pub literal_of : Item → Option Target
 literal_of i = target_of_role i.role
 
--- a list without what stands in it before, in order
+-- a list with a target behind it, unless it is there
 abbrev pub with_target : List Target → Target → List Target
 with_target ts t = if list_any (λ u. target_eq u t) ts then ts else ts ++ t ∷ []
 
-abbrev pub distinct_onto : List Target → List Target → List Target
-distinct_onto seen [] = seen
-distinct_onto seen (t ∷ ts) = distinct_onto (with_target seen t) ts
+abbrev pub with_slot : List Target → Option Target → List Target
+with_slot ts None = ts
+with_slot ts (Some t) = with_target ts t
 
-abbrev pub distinct : List Target → List Target
-distinct ts = distinct_onto [] ts
+abbrev pub slots_onto : List Target → List Item → List Target
+slots_onto ts [] = ts
+slots_onto ts (i ∷ text) = slots_onto (with_slot ts (literal_of i)) text
 
--- the slots that the address table of a text needs
+-- the targets that the words of a text load the addresses of, each once, in order of first use
 abbrev pub slots : List Item → List Target
-slots text = distinct (filter_map literal_of text)
+slots text = slots_onto [] text
 
 abbrev pub slot_limit : ℕ
 slot_limit = 8192

@@ -30,7 +30,7 @@ impl RegionSizes {
     /// Notes the size of a region. Whether it had one before.
     pub(crate) fn add(&mut self, r: Region, size: u64) -> Result<bool, NoMemory>
         ensures had { IfOk result (λ had. had ≡ is_some (size_in self.old r)) }
-        ensures now { (q : AnyRegion) → IfOk result (λ had. size_in self.new q ≡ (if region_eq r q then Some size else size_in self.old q)) }
+        ensures now { IfOk result (λ had. (q : AnyRegion) → size_in self.new q ≡ (if region_eq r q then Some size else size_in self.old q)) }
     {
         let before = self.sizes.insert(r, size)?;
         Ok(before.is_some())
@@ -65,7 +65,7 @@ impl Slots {
     /// Notes a target. Whether it is new.
     pub(crate) fn add(&mut self, t: Target) -> Result<bool, NoMemory>
         ensures added { IfOk result (λ added. added ≡ not (is_slot self.old t)) }
-        ensures now { (q : AnyTarget) → IfOk result (λ added. is_slot self.new q ≡ (target_eq t q || is_slot self.old q)) }
+        ensures now { IfOk result (λ added. (q : AnyTarget) → is_slot self.new q ≡ (target_eq t q || is_slot self.old q)) }
     {
         let added = self.seen.insert(t)?;
         Ok(added)

@@ -2,6 +2,7 @@
 //! initial content, and its entry; and in specs/ the symbolic machine that runs it.
 #![tactic(auto)]
 
+mod finding;
 mod item;
 mod keys;
 mod known;
