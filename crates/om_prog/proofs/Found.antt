@@ -1,13 +1,12 @@
 -- What the passes over all regions and over all words of a text have found.
-use Rattle.std.proofs.Common.{◌≡◌, ◌⊎◌, inl, inr, ℕ, zero, suc, ◌+◌, ◌*◌, ◌<◌, ◌≤◌, Bool, true, false, cond, ◌&&◌, ◌||◌, ◌==◌, List, [], ◌∷◌, ◌++◌, length, take, Option, Some, None, refl, sym, ap, ◌∙◌, subst, arith}
-use Rattle.std.specs.Prelude.{get_or, option_map, is_some, find, count_by, not, nat_lt, IfOk, Result, Ok, Err}
+use Rattle.std.proofs.Common.{◌≡◌, ◌⊎◌, inl, inr, ℕ, zero, suc, ◌+◌, ◌<◌, Bool, true, false, cond, ◌&&◌, ◌||◌, ◌==◌, List, [], ◌∷◌, ◌++◌, length, take, Option, Some, None, refl, sym, ap, ◌∙◌, subst, arith}
+use Rattle.std.specs.Prelude.{get_or, option_map, is_some, find, count_by, IfOk, Result, Ok, Err}
 use Rattle.std.specs.List.{slice_get, list_any}
 use Rattle.std.specs.Option.{option_or}
 use Rattle.std.proofs.lemmas.Bool.{true≢false, eqb-true}
 use Rattle.std.proofs.lemmas.Bool.Decides.{nat_tests}
 use Rattle.std.proofs.lemmas.List.Folds.{find-append, list_any-append}
 use Rattle.std.proofs.lemmas.List.Sums.{sum_by-append}
-use Rattle.om_value.specs.declared.value.Place.{Place}
 use Rattle.om_value.specs.declared.value.Region.{Region}
 use Rattle.om_value.specs.declared.value.Region.TheVariants.{Sec, Common, Stack, Heap}
 use Rattle.om_value.specs.declared.value.Target.{Target}
@@ -84,6 +83,10 @@ find_none p (x ∷ xs) e k y f = by_case (p x) refl e k f (λ g k. find_none p x
 pub if_both : {A E : Type 0} → (r : Result A E) (P Q R : A → Type 0) → IfOk r P → IfOk r Q → ((x : A) → P x → Q x → R x) → IfOk r R
 if_both (Ok x) P Q R p q f = f x p q
 if_both (Err e) P Q R p q f = tt
+
+pub if_all : {A E : Type 0} → (r : Result A E) (P Q : A → Type 0) → IfOk r P → ((x : A) → P x → Q x) → IfOk r Q
+if_all (Ok x) P Q p f = f x p
+if_all (Err e) P Q p f = tt
 
 -- ---- regions and targets
 

@@ -1,5 +1,5 @@
 -- Two regions, or two targets, are equal in the derived order exactly where they are the same.
-use Rattle.std.proofs.Common.{◌≡◌, ℕ, Bool, true, false, ◌&&◌, ◌==◌, refl, sym, ap, ◌∙◌, arith}
+use Rattle.std.proofs.Common.{◌≡◌, ℕ, ◌&&◌, ◌==◌, refl, ◌∙◌, arith}
 use Rattle.std.specs.declared.cmp.Ordering.{Ordering}
 use Rattle.std.specs.declared.cmp.Ordering.TheVariants.{Less, Equal, Greater}
 use Rattle.std.specs.Ordering.{is_eq, nat_cmp, ordering_then}
@@ -8,7 +8,7 @@ use Rattle.om_value.specs.declared.value.Region.{Region}
 use Rattle.om_value.specs.declared.value.Region.TheVariants.{Sec, Common, Stack, Heap}
 use Rattle.om_value.specs.declared.value.Target.{Target}
 use Rattle.om_value.specs.declared.value.Target.TheVariants.{Num, Ptr, Code}
-use Rattle.om_value.specs.Same.{place_eq, region_eq, target_eq}
+use Rattle.om_value.specs.Same.{region_eq, target_eq}
 use Rattle.om_prog.specs.Keys.{region_cmp, target_cmp}
 
 then_both : (o p : Ordering) → is_eq (ordering_then o p) ≡ (is_eq o && is_eq p)

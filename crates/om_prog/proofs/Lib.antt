@@ -12,3 +12,5 @@ pub mod Retabled
 pub mod Stays
 pub mod Keyed
 pub mod Found
+pub mod Every
+pub mod Apart

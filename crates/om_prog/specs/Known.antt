@@ -1,5 +1,5 @@
 -- What is known of a program while its parts are tested.
-use Rattle.std.specs.Prelude.{◌≡◌, ℕ, Option, option_map}
+use Rattle.std.specs.Prelude.{◌≡◌, option_map}
 use Rattle.om_value.specs.declared.value.Region.{Region}
 use Rattle.om_prog.specs.declared.known.Known.{Known}
 use Rattle.om_prog.specs.View.{ProgramView, items_lists, init_of}

@@ -14,3 +14,5 @@ pub mod Rows
 pub mod Keys
 pub mod Known
 pub mod Making
+pub mod Claims
+pub mod Made

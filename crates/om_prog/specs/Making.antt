@@ -1,12 +1,11 @@
 -- What the steps that test the parts of a program have found.
-use Rattle.std.specs.Prelude.{◌≡◌, ◌<◌, ℕ, ◌+◌, ◌*◌, Bool, ◌==◌, nat_lt, nat_le, ◌&&◌, if◌then◌else◌, List, length, get_or, Option, Some, None, find, option_map, count_by, slice_get}
+use Rattle.std.specs.Prelude.{◌≡◌, ◌<◌, ℕ, ◌*◌, nat_lt, if◌then◌else◌, List, length, get_or, Option, Some, None, find, option_map, count_by}
 use Rattle.std.specs.List.{list_any}
 use Rattle.om_value.specs.declared.value.Place.{Place}
 use Rattle.om_value.specs.declared.value.Region.{Region}
 use Rattle.om_value.specs.declared.value.Target.{Target}
 use Rattle.om_value.specs.Same.{region_eq, target_eq}
 use Rattle.om_prog.specs.declared.item.Item.{Item}
-use Rattle.om_prog.specs.declared.item.Field.{Field}
 use Rattle.om_prog.specs.declared.keys.RegionSizes.{RegionSizes}
 use Rattle.om_prog.specs.declared.keys.Slots.{Slots}
 use Rattle.om_prog.specs.declared.region.RegionInit.{RegionInit}

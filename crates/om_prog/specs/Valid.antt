@@ -28,6 +28,27 @@ pub record AreOnce (regions : List RegionInit) : Type 0 where
       (j k : ℕ) (a b : RegionInit) → j < k → slice_get regions j ≡ Some a → slice_get regions k ≡ Some b →
       region_eq a.region b.region ≡ false
 
+-- two fields have no byte of both
+abbrev pub are_apart : Field → Field → Bool
+are_apart f g = not (nat_lt f.off (g.off + g.width) && nat_lt g.off (f.off + f.width))
+
+pub record AreApart (fields : List Field) : Type 0 where
+  pub apart :
+      (j k : ℕ) (f g : Field) → j < k → slice_get fields j ≡ Some f → slice_get fields k ≡ Some g → are_apart f g ≡ true
+
+-- neither the stack nor the heap is given
+abbrev pub is_given : Region → Bool
+is_given Stack = false
+is_given Heap = false
+is_given _ = true
+
+-- what a region has apart from its fields
+pub record HasForm (i : RegionInit) : Type 0 where
+  pub given : is_given i.region ≡ true
+  pub even : i.size % 8 ≡ 0
+  pub bytes : length i.bytes ≤ i.size
+  pub zero : i.zero ≡ true → (length i.bytes ≡ 0) × (length i.fields ≡ 0)
+
 -- ---- roles
 
 abbrev pub target_of_role : Role → Option Target
@@ -96,19 +117,20 @@ module _ (p : ProgramView) where
     pub instr : instr_of i.word ≡ Some i.instr
     pub role : fits text at i.role i.instr ≡ true
 
-  pub record IsText (obj : ℕ) (text : List Item) : Type 0 where
-    pub words : length text < 2 ^ 30
-    pub slots : length (slots text) ≤ slot_limit
-    pub items :
+  -- each word of a text is one, at its place
+  pub record AreItems (obj : ℕ) (text : List Item) : Type 0 where
+    pub each :
         (k : ℕ) (i : Item) → slice_get text k ≡ Some i → IsItem text (record { obj = obj; off = 4 * k }) i
 
-  -- ---- regions
+  pub record IsText (obj : ℕ) (text : List Item) : Type 0 where
+    pub words : length text < 2 ^ 30
+    pub few : length (slots text) ≤ slot_limit
+    pub items : AreItems obj text
 
-  -- neither the stack nor the heap is given
-  abbrev pub is_given : Region → Bool
-  is_given Stack = false
-  is_given Heap = false
-  is_given _ = true
+  pub record AreTexts : Type 0 where
+    pub each : (obj : ℕ) (text : List Item) → slice_get p.texts obj ≡ Some text → IsText obj text
+
+  -- ---- regions
 
   abbrev pub is_up_to : ℕ → Option RegionInit → Bool
   is_up_to x None = false
@@ -133,26 +155,20 @@ module _ (p : ProgramView) where
     pub aligned : f.off % f.width ≡ 0
     pub inside : f.off + f.width ≤ size
 
-  -- two fields have no byte of both
-  abbrev pub are_apart : Field → Field → Bool
-  are_apart f g = not (nat_lt f.off (g.off + g.width) && nat_lt g.off (f.off + f.width))
-
   pub record AreFields (size : ℕ) (fields : List Field) : Type 0 where
     pub each : (k : ℕ) (f : Field) → slice_get fields k ≡ Some f → IsField size f
-    pub apart :
-        (j k : ℕ) (f g : Field) → j < k → slice_get fields j ≡ Some f → slice_get fields k ≡ Some g →
-        are_apart f g ≡ true
+    pub apart : AreApart fields
 
   pub record IsRegionInit (i : RegionInit) : Type 0 where
-    pub given : is_given i.region ≡ true
-    pub even : i.size % 8 ≡ 0
-    pub bytes : length i.bytes ≤ i.size
-    pub zero : i.zero ≡ true → (length i.bytes ≡ 0) × (length i.fields ≡ 0)
+    pub form : HasForm i
     pub fields : AreFields i.size i.fields
+
+  pub record AreRegions : Type 0 where
+    pub each : (k : ℕ) (i : RegionInit) → slice_get p.regions k ≡ Some i → IsRegionInit i
 
   pub record IsProgram : Type 0 where
     pub objects : length p.texts < 2 ^ 32
-    pub texts : (obj : ℕ) (text : List Item) → slice_get p.texts obj ≡ Some text → IsText obj text
+    pub texts : AreTexts
     pub entry : is_word p p.entry ≡ true
-    pub regions : (k : ℕ) (i : RegionInit) → slice_get p.regions k ≡ Some i → IsRegionInit i
+    pub regions : AreRegions
     pub once : AreOnce p.regions

@@ -1,10 +1,11 @@
 // What is known of the parts of a program while they are tested: which places are words, and which regions there are.
-ghost use Rattle.std.specs.Prelude.{◌≡◌, ◌↔◌, ◌==◌, ◌≤◌, ◌+◌, Some, IsTrue, IfSome, ◌<◌, ℕ, List, length, count_by};
+ghost use Rattle.std.specs.Prelude.{◌≡◌, ◌↔◌, ◌==◌, ◌≤◌, ◌+◌, Some, IsTrue, IfSome, ◌⊎◌, ℕ, List, length, count_by};
 ghost use Rattle.om_value.specs.declared.value.Region.{Region as AnyRegion};
 ghost use Rattle.om_prog.specs.declared.item.Item.{Item as AnyItem};
 ghost use Rattle.om_prog.specs.View.{ProgramView, item_at, is_word};
 ghost use Rattle.om_prog.specs.Valid.{has_region, is_target, is_high, is_near_target, width_of, fits, is_low_of, IsField};
 ghost use Rattle.om_prog.specs.Known.{IsKnown};
+ghost use Rattle.om_prog.specs.Claims.{IsPlaced};
 
 use crate::item::{Field, Item, Role};
 use crate::keys::RegionSizes;
@@ -108,7 +109,7 @@ impl Known<'_> {
     /// The width of a field of a value, if there may be one.
     fn width_of(&self, value: Value) -> Option<u8>
         ensures value { (v : ProgramView) → IsKnown self.now v → result ≡ width_of v value }
-        ensures range { IfSome result (λ w. 0 < w) }
+        ensures range { IfSome result (λ w. (w ≡ 4) ⊎ (w ≡ 8)) }
     {
         match value {
             Value::Num(_) => Some(8),
@@ -133,7 +134,8 @@ impl Known<'_> {
 
     /// Whether a field may stand in a region of a size.
     pub(crate) fn is_field(&self, size: u64, f: &Field) -> bool
-        ensures { (v : ProgramView) → IsKnown self.now v → IsTrue result ↔ IsField v size f.now }
+        ensures value { (v : ProgramView) → IsKnown self.now v → IsTrue result ↔ IsField v size f.now }
+        ensures placed { IsTrue result → IsPlaced f.now }
     {
         let width = u64::from(f.width);
         match self.width_of(f.value) {

@@ -2,15 +2,20 @@
 //! initial content, and its entry; and in specs/ the symbolic machine that runs it.
 #![tactic(auto)]
 
+mod claims;
+mod errors;
 mod finding;
 mod item;
+mod items;
 mod keys;
 mod known;
 mod laws;
+mod making;
 mod program;
 mod region;
 mod words;
 
+pub use errors::ProgErr;
 pub use item::{Field, Item, Role};
 pub use laws::{
     codes_stay, effects_depend_on_reads, same_words_same_run, steps_lead,

@@ -1,9 +1,8 @@
-use Rattle.std.proofs.Common.{◌≡◌, ◌<◌, ◌≤◌, ◌+◌, ℕ, List, take, length, Some, refl, sym, ap, subst, ◌∙◌, arith}
-use Rattle.std.specs.Prelude.{get_or}
+use Rattle.std.proofs.Common.{◌<◌, List, take, length, refl, sym, ap, subst, arith}
 use Rattle.std.proofs.lemmas.Bool.Decides.{nat_tests}
 use Rattle.std.proofs.lemmas.Option.{slice_get_read}
 use Rattle.om_value.specs.declared.value.Target.{Target}
-use Rattle.om_prog.specs.Valid.{slots, with_slot, literal_of}
+use Rattle.om_prog.specs.Valid.{slots}
 use Rattle.om_prog.specs.Making.{HasSlots}
 use Rattle.om_prog.proofs.Found.{slots_step}
 use Rattle.om_prog.proofs.finding.has_few_slots.Goals.{then-branch, else-branch}

@@ -1,4 +1,4 @@
-use Rattle.std.specs.Prelude.{◌≡◌, ◌≤◌, ℕ, length, take}
+use Rattle.std.specs.Prelude.{◌≡◌, ◌≤◌, length, take}
 use Rattle.om_prog.specs.Valid.{slots}
 use Rattle.om_prog.specs.Making.{HasSlots}
 use Rattle.om_prog.proofs.finding.has_few_slots.Given as goal

@@ -1,4 +1,4 @@
-use Rattle.std.specs.Prelude.{ℕ, take}
+use Rattle.std.specs.Prelude.{take}
 use Rattle.om_prog.specs.Making.{AreMarks}
 use Rattle.om_prog.proofs.finding.low_marks.Given as goal
 

@@ -1,5 +1,5 @@
-use Rattle.std.proofs.Common.{◌≡◌, ◌<◌, ℕ, take, length, Some, refl, sym, ap, subst, ◌∙◌, arith}
-use Rattle.std.specs.Prelude.{List, ◌++◌, ◌∷◌, [], get_or}
+use Rattle.std.proofs.Common.{◌<◌, take, length, refl, sym, subst, ◌∙◌, arith}
+use Rattle.std.specs.Prelude.{List}
 use Rattle.std.proofs.lemmas.Bool.Decides.{nat_tests}
 use Rattle.std.proofs.lemmas.Option.{slice_get_read}
 use Rattle.om_prog.specs.declared.region.RegionInit.{RegionInit}

@@ -1,4 +1,4 @@
-use Rattle.std.specs.Prelude.{ℕ, take}
+use Rattle.std.specs.Prelude.{take}
 use Rattle.om_prog.specs.Valid.{AreOnce}
 use Rattle.om_prog.specs.Making.{HasSizes}
 use Rattle.om_prog.proofs.finding.sizes_of.Given as goal

@@ -7,7 +7,7 @@ pub overflow_cast-result : goal.overflow_cast-result
 overflow_cast-result c =
     let look = c.in-Some.ensures.lookup in
     let found = text_found c.self.inside.texts.items c.deref.result.now c.args.obj c.in-Some.text.now c.deref.ensures.value look.3.0 look.1 in
-    let short = (c.self.invariant.texts c.args.obj c.in-Some.text.now.items found).words in
+    let short = (c.self.invariant.texts.each c.args.obj c.in-Some.text.now.items found).words in
     grind (arith, short, c.len.ensures)
 
 pub returns-in-Some : goal.returns-in-Some
