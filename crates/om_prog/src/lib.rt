@@ -13,6 +13,8 @@ mod laws;
 mod making;
 mod program;
 mod region;
+#[cfg(test)]
+mod tests;
 mod words;
 
 pub use errors::ProgErr;
