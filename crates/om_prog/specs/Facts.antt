@@ -34,7 +34,9 @@ Allows f g = f ≡ g
 -- along the steps from places of which At holds, where a run comes
 pub record GpFlows (c : Script) (K At : Place → Type 0) (fact : Place → Fact) : Type 0 where
   pub entry : (fact c.entry ≡ Unknown) ⊎ (fact c.entry ≡ Table (c.table c.entry.obj))
-  pub goes : (p : Place) (w : Word) (q : Place) → At p → c.fetch p ≡ Some w → GoesTo K w q → Allows (changed c w (fact p)) (fact q)
+  pub goes :
+      (p : Place) (w : Word) (q : Place) → At p → c.fetch p ≡ Some w → GoesTo K w q →
+      Allows (changed c w (fact p)) (fact q)
 
 -- a fact holds of a state
 abbrev pub Holds : Fact → SymState → Type 0

@@ -25,14 +25,16 @@ pub record WordsWriteTheirRegisters : Type 0 where
       (Among (act_writes a) r → ⊥) → read_reg (after s at (act_effect c s at a)).regs r ≡ read_reg s.regs r
   pub written :
       (c : Script) (s : SymState) (at : Place) (a : Act) (r : ℕ) → Among (act_writes a) r →
-      Among (act_keeps a) r ⊎ (r ≡ 31) ⊎ Among (effect_writes (act_effect c s at a)) r ⊎ (effect_ends (act_effect c s at a) ≡ true)
+      Among (act_keeps a) r ⊎ (r ≡ 31) ⊎ Among (effect_writes (act_effect c s at a)) r
+      ⊎ (effect_ends (act_effect c s at a) ≡ true)
 
 -- where all codes of a state are among some places, a word that does not end the run leads to the next place, to where it
 -- branches, or, where it jumps, to one of those places
 pub record StepsLead : Type 0 where
   pub leads :
       (among : Place → Bool) (c : Script) (s : SymState) (w : Word) → StateWithin (IsIn among) s →
-      effect_ends (act_effect c s w.at w.act) ≡ false → GoesTo (IsIn among) w (after s w.at (act_effect c s w.at w.act)).place
+      effect_ends (act_effect c s w.at w.act) ≡ false →
+      GoesTo (IsIn among) w (after s w.at (act_effect c s w.at w.act)).place
   pub stays :
       (c : Script) (s : SymState) (w : Word) →
       effect_ends (act_effect c s w.at w.act) ≡ true → (after s w.at (act_effect c s w.at w.act)).place ≡ s.place
@@ -59,7 +61,9 @@ module _ (c : Script) (fetch : Place → Option Word) where
     pub entry : HasSameWord c.entry
     pub first : (input : List ℕ) → StateWithin HasSameWord (sym_start c input)
     pub fine : (q : Place) (w : Word) → HasSameWord q → c.fetch q ≡ Some w → ActWithin HasSameWord w.at w.act
-    pub goes : (q : Place) (w : Word) (r : Place) → HasSameWord q → c.fetch q ≡ Some w → GoesTo HasSameWord w r → HasSameWord r
+    pub goes :
+        (q : Place) (w : Word) (r : Place) → HasSameWord q → c.fetch q ≡ Some w → GoesTo HasSameWord w r →
+        HasSameWord r
 
 -- two scripts whose words are the same wherever a run comes have the same run
 pub record SameWordsSameRun : Type 0 where

@@ -1,17 +1,21 @@
 -- Worked runs.
-use Rattle.std.specs.Prelude.{◌≡◌, ℕ, pos, negsuc, List, [], ◌∷◌, Option, Some, None, refl}
+use Rattle.om_isa.specs.declared.instr.JumpOp.TheVariants.{Jmp}
+use Rattle.om_value.specs.declared.value.Region.TheVariants.{Sec}
+use Rattle.om_value.specs.declared.value.Target.TheVariants as target
+use Rattle.om_value.specs.declared.value.Value.TheVariants.{Code}
+use Rattle.std.specs.Prelude.{◌≡◌, ℕ, pos, negsuc, false, List, [], ◌∷◌, Option, Some, None, refl}
 use Rattle.om_alpha.specs.declared.op.TrapKind.TheVariants as trap
 use Rattle.om_alpha.specs.declared.op.AluOp.TheVariants.{Bis}
-use Rattle.om_isa.specs.declared.instr.MemOp.TheVariants.{Lda, Ldl, Ldq, Stb, Stq}
+use Rattle.om_isa.specs.declared.instr.MemOp.TheVariants.{Lda, Ldah, Ldl, Ldq, Stb, Stq}
 use Rattle.om_isa.specs.declared.instr.BrOp.TheVariants.{Br}
 use Rattle.om_isa.specs.declared.instr.Opnd.TheVariants.{R}
 use Rattle.om_isa.specs.declared.instr.Instr.{Instr}
-use Rattle.om_isa.specs.declared.instr.Instr.TheVariants.{Mem, Branch, Alu, Callsys}
+use Rattle.om_isa.specs.declared.instr.Instr.TheVariants.{Mem, Jump, Branch, Alu, Callsys}
 use Rattle.om_isa.specs.Words.{word_of}
 use Rattle.om_value.specs.declared.value.Place.{Place}
 use Rattle.om_value.specs.Lift.{lifted, lifted_add, on_numbers, moves_pointer, keeps_value}
 use Rattle.om_prog.specs.declared.item.Role.{Role}
-use Rattle.om_prog.specs.declared.item.Role.TheVariants.{Plain, To}
+use Rattle.om_prog.specs.declared.item.Role.TheVariants.{Plain, Lit, GpHi, GpLo, To}
 use Rattle.om_prog.specs.declared.item.Item.{Item}
 use Rattle.om_prog.specs.declared.region.RegionInit.{RegionInit}
 use Rattle.om_prog.specs.View.{ProgramView}
@@ -93,16 +97,8 @@ pub row_access : end_of (program_of (plain (Mem Ldq 1 31 (pos 0)) ∷ []) []) 1 
 unfolding sym_run sym_step sym_start lifted lifted_add on_numbers moves_pointer keeps_value
 row_access = refl
 
--- lda r0,17(r31); lda r16,0(r31); callsys; bis r31,r0,r9: where the heap ends
-abbrev pub heap_end : List Item
-heap_end =
-    plain (Mem Lda 0 31 (pos 17))
-    ∷ plain (Mem Lda 16 31 (pos 0))
-    ∷ plain Callsys
-    ∷ plain (Alu Bis 31 (R 0) 9)
-    ∷ []
-
--- then lda r16,16(r9); lda r0,17(r31); callsys: the heap gets 16 bytes; and lda r1,5(r31)
+-- lda r0,17(r31); lda r16,0(r31); callsys; bis r31,r0,r9: where the heap ends; lda r16,16(r9); lda r0,17(r31);
+-- callsys: it gets 16 bytes; and lda r1,5(r31)
 abbrev pub heap_of_16 : List Item → List Item
 heap_of_16 rest =
     plain (Mem Lda 0 31 (pos 17))
@@ -120,11 +116,41 @@ abbrev pub exit_with : ℕ → List Item
 exit_with r = plain (Alu Bis 31 (R r) 16) ∷ plain (Mem Lda 0 31 (pos 1)) ∷ plain Callsys ∷ []
 
 -- stq r1,8(r9); ldq r3,8(r9)
-pub row_heap : end_of (program_of (heap_of_16 (plain (Mem Stq 1 9 (pos 8)) ∷ plain (Mem Ldq 3 9 (pos 8)) ∷ exit_with 3)) []) 13 ≡ Some (ExitedWith 5)
+abbrev pub heap_kept : ProgramView
+heap_kept = program_of (heap_of_16 (plain (Mem Stq 1 9 (pos 8)) ∷ plain (Mem Ldq 3 9 (pos 8)) ∷ exit_with 3)) []
+
+pub row_heap : end_of heap_kept 13 ≡ Some (ExitedWith 5)
 unfolding sym_run sym_step sym_start lifted lifted_add on_numbers moves_pointer keeps_value
 row_heap = refl
 
 -- stq r1,16(r9): past the heap's end
-pub row_past_heap : end_of (program_of (heap_of_16 (plain (Mem Stq 1 9 (pos 16)) ∷ [])) []) 9 ≡ Some (ObservedAt (place 0x20))
+abbrev pub heap_passed : ProgramView
+heap_passed = program_of (heap_of_16 (plain (Mem Stq 1 9 (pos 16)) ∷ [])) []
+
+pub row_past_heap : end_of heap_passed 9 ≡ Some (ObservedAt (place 0x20))
 unfolding sym_run sym_step sym_start lifted lifted_add on_numbers moves_pointer keeps_value
 row_past_heap = refl
+
+-- ldah r29,0(r27); lda r29,0(r29): the global pointer from the entry; ldq r1,0(r29): the data's address from the
+-- table; ldq r27,0(r1): a place in code from a field; jmp r31,(r27); there lda r1,9(r31), and the end with r1
+abbrev pub jump_by_a_field : ProgramView
+jump_by_a_field =
+    program_of
+    (with_role (GpHi (place 0)) (Mem Ldah 29 27 (pos 0))
+    ∷ with_role (GpLo (place 0)) (Mem Lda 29 29 (pos 0))
+    ∷ with_role (Lit (target.Ptr (Sec 0 3) 0)) (Mem Ldq 1 29 (pos 0))
+    ∷ plain (Mem Ldq 27 1 (pos 0))
+    ∷ plain (Jump Jmp 31 27 0)
+    ∷ plain (Mem Lda 1 31 (pos 9))
+    ∷ exit_with 1)
+    (record {
+      region = Sec 0 3;
+      size = 8;
+      zero = false;
+      bytes = [];
+      fields = record { off = 0; width = 8; value = Code (place 20) } ∷ [];
+    } ∷ [])
+
+pub row_jump_by_a_field : end_of jump_by_a_field 9 ≡ Some (ExitedWith 9)
+unfolding sym_run sym_step sym_start lifted lifted_add on_numbers moves_pointer keeps_value
+row_jump_by_a_field = refl

@@ -239,7 +239,8 @@ module _ (c : Script) (s : SymState) where
   plain_effect (Jumps kind ra rb hint) = jump_effect ra (reg rb)
   plain_effect (Branch op ra disp) = StepObserves
   plain_effect (Alu op ra rb rc) = alu_effect op (reg ra) (operand rb) rc
-  plain_effect (Cmov cond ra rb rc) = test_effect (lifted_condition cond (reg ra) (region_size (reg ra))) (Set rc (operand rb))
+  plain_effect (Cmov cond ra rb rc) =
+      test_effect (lifted_condition cond (reg ra) (region_size (reg ra))) (Set rc (operand rb))
   plain_effect (Misc op ra rb) = Nothing
   plain_effect Fnop = Nothing
   plain_effect Halt = Stop trap.Halt

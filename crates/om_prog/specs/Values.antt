@@ -23,7 +23,9 @@ loaded c at a k r = if has (act_writes a) r then None else k r
 
 pub record ValueFlows (c : Script) (K At : Place → Type 0) (known : Place → Values) : Type 0 where
   pub entry : (r : ℕ) → known c.entry r ≡ None
-  pub goes : (p : Place) (w : Word) (q : Place) (r : ℕ) (v : Value) → At p → c.fetch p ≡ Some w → GoesTo K w q → known q r ≡ Some v → loaded c w.at w.act (known p) r ≡ Some v
+  pub goes :
+      (p : Place) (w : Word) (q : Place) (r : ℕ) (v : Value) → At p → c.fetch p ≡ Some w →
+      GoesTo K w q → known q r ≡ Some v → loaded c w.at w.act (known p) r ≡ Some v
 
 abbrev pub HoldsValues : Values → SymState → Type 0
 HoldsValues k s = (r : ℕ) (v : Value) → k r ≡ Some v → read_reg s.regs r ≡ v
