@@ -8,7 +8,6 @@ use om_image::{Image, Map, write_image};
 use om_io::{Bytes, Listed, MemSink, MemSource, MemStore};
 use om_isa::decode;
 use std::alloc::Global;
-use std::process::Abort;
 use std::test::Fail;
 
 fn all_decode(text: &[u32]) -> bool
@@ -166,7 +165,8 @@ fn ran(text: &'static [u32], line: &'static str, status: u8, told: &'static str)
     }
 }
 
-fn check(rt: &impl Abort, alloc: Global, row: Row) -> Result<(), Fail> {
+// Whether a run is as its row says.
+fn agrees(alloc: Global, row: Row) -> Result<bool, Fail> {
     let mut store = store_of(alloc, file_of(alloc, row.text)?, &[])?;
     let mut input = MemSource::new(
         row.input.as_bytes().to_vec(alloc)?,
@@ -176,10 +176,9 @@ fn check(rt: &impl Abort, alloc: Global, row: Row) -> Result<(), Fail> {
     let mut err = MemSink::new(alloc, 256, row.fails[2].to_vec(alloc)?)?;
     let words = words_of(alloc, row.line)?;
     let status = om(alloc, &words, &mut store, &mut input, &mut out, &mut err);
-    assert_eq!(rt; err.bytes(), row.told.as_bytes(), "{}", row.line);
-    assert_eq!(rt; status, row.status, "{}", row.line);
-    assert_eq!(rt; out.bytes().len(), row.written, "{}", row.line);
-    Ok(())
+    Ok(status == row.status
+        && out.bytes().len() == row.written
+        && err.bytes() == row.told.as_bytes())
 }
 
 #[test]
@@ -196,7 +195,7 @@ fn runs_end_as_they_should(rt: HostRuntime) -> Result<(), Fail> {
         ran(EXITS_SEVEN, "run", 2, "usage 2\n"),
     ];
     for row in rows {
-        check(&rt, rt.alloc(), row)?;
+        assert!(rt; agrees(rt.alloc(), row)?, "{}", row.line);
     }
     Ok(())
 }
@@ -212,7 +211,7 @@ fn traps_have_their_kind_and_address(rt: HostRuntime) -> Result<(), Fail> {
         ran(OVERFLOWS, "run -n 0 p", 5, "steps 0\n"),
     ];
     for row in rows {
-        check(&rt, rt.alloc(), row)?;
+        assert!(rt; agrees(rt.alloc(), row)?, "{}", row.line);
     }
     Ok(())
 }
@@ -225,7 +224,7 @@ fn the_heap_has_an_end(rt: HostRuntime) -> Result<(), Fail> {
         ran(LARGE_HEAP, "run p", 1, "exit 12\n"),
     ];
     for row in rows {
-        check(&rt, rt.alloc(), row)?;
+        assert!(rt; agrees(rt.alloc(), row)?, "{}", row.line);
     }
     Ok(())
 }
@@ -248,7 +247,7 @@ fn outputs_that_fail_are_write_faults(rt: HostRuntime) -> Result<(), Fail> {
         },
     ];
     for row in rows {
-        check(&rt, rt.alloc(), row)?;
+        assert!(rt; agrees(rt.alloc(), row)?, "{}", row.line);
     }
     Ok(())
 }
@@ -273,7 +272,7 @@ fn inputs_that_fail_are_read_faults(rt: HostRuntime) -> Result<(), Fail> {
         },
     ];
     for row in rows {
-        check(&rt, rt.alloc(), row)?;
+        assert!(rt; agrees(rt.alloc(), row)?, "{}", row.line);
     }
     Ok(())
 }

@@ -1,0 +1,16 @@
+pub mod Texts
+pub mod Agree
+pub mod After
+pub mod Codes
+pub mod Goes
+pub mod Writes
+pub mod Facts
+pub mod Initial
+pub mod SameRun
+pub mod Values
+pub mod Retabled
+pub mod Stays
+pub mod Keyed
+pub mod Found
+pub mod Every
+pub mod Apart
