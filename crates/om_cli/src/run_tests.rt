@@ -176,9 +176,11 @@ fn agrees(alloc: Global, row: Row) -> Result<bool, Fail> {
     let mut err = MemSink::new(alloc, 256, row.fails[2].to_vec(alloc)?)?;
     let words = words_of(alloc, row.line)?;
     let status = om(alloc, &words, &mut store, &mut input, &mut out, &mut err);
-    Ok(status == row.status
-        && out.bytes().len() == row.written
-        && err.bytes() == row.told.as_bytes())
+    Ok(
+        status == row.status
+            && out.bytes().len() == row.written
+            && err.bytes() == row.told.as_bytes(),
+    )
 }
 
 #[test]
