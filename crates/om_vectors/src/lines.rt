@@ -29,8 +29,17 @@ fn alu_agrees(rest: &str) -> Option<bool> {
     Some(alu(op, a, b) == hex(result)? && overflows(op, a, b) == (over == "yes"))
 }
 
-/// The word, the operands and the result of `alu WORD A B RESULT no`, where nothing overflows.
-pub fn computed(line: &str) -> Option<(u32, [u64; 3])> {
+/// An operation's word, its operands and its result.
+#[derive(Clone, Copy)]
+pub struct Computed {
+    pub word: u32,
+    pub a: u64,
+    pub b: u64,
+    pub result: u64,
+}
+
+/// What `alu WORD A B RESULT no` says, where nothing overflows.
+pub fn computed(line: &str) -> Option<Computed> {
     let rest = line.strip_prefix("alu ")?;
     let (word, rest) = rest.split_once(' ')?;
     let (a, rest) = rest.split_once(' ')?;
@@ -39,7 +48,12 @@ pub fn computed(line: &str) -> Option<(u32, [u64; 3])> {
     if over != "no" {
         return None;
     }
-    Some((word_of(word)?, [hex(a)?, hex(b)?, hex(result)?]))
+    Some(Computed {
+        word: word_of(word)?,
+        a: hex(a)?,
+        b: hex(b)?,
+        result: hex(result)?,
+    })
 }
 
 /// `cond WORD A HOLDS`

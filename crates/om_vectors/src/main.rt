@@ -19,8 +19,8 @@ fn main(rt: HostRuntime) -> io::Result<()> {
     let mut trial = Trial::new(rt.alloc())?;
     for line in rt.lines(rt.alloc()) {
         let line = line?;
-        if let Some((word, numbers)) = lines::computed(line.as_str()) {
-            trial.add(word, numbers)?;
+        if let Some(vector) = lines::computed(line.as_str()) {
+            trial.add(vector)?;
             tried = tried.saturating_add(1);
         }
         if lines::agrees(rt.alloc(), line.as_str())? {

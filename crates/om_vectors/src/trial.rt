@@ -3,6 +3,7 @@ ghost use Rattle.std.specs.Prelude.{◌≡◌, IfSome, All, IsTrue, true, is_som
 ghost use Rattle.om_isa.specs.Words.{instr_of};
 ghost use Rattle.om_image.specs.Valid.{IsValidImage};
 
+use crate::lines::Computed;
 use om_image::{Image, Map};
 use om_io::{Bytes, Listed, NoMemory, NullSink, NullSource};
 use om_isa::decode;
@@ -69,26 +70,30 @@ impl Trial {
         })
     }
 
-    /// Adds a vector: an operation of r1, and r2 or a literal, into r3; its operands and its result.
-    pub fn add(&mut self, word: u32, numbers: [u64; 3]) -> Result<(), AllocError> {
-        // ldq r1,0(r9), ldq r2,8(r9), the word, ldq r4,16(r9), cmpeq r3,r4,r5, lda r9,24(r9), bne r5,1, halt
-        for w in [
-            0xa429_0000,
-            0xa449_0008,
-            word,
-            0xa489_0010,
-            0x4064_05a5,
-            0x2129_0018,
-            0xf4a0_0001,
-            0,
-        ] {
-            self.text.push(w)?;
+    fn add_words(&mut self, words: &[u32]) -> Result<(), AllocError> {
+        for word in words {
+            self.text.push(*word)?;
         }
-        for n in numbers {
-            for byte in n.to_le_bytes() {
-                self.data.push(byte)?;
-            }
+        Ok(())
+    }
+
+    fn add_number(&mut self, n: u64) -> Result<(), AllocError> {
+        for byte in n.to_le_bytes() {
+            self.data.push(byte)?;
         }
+        Ok(())
+    }
+
+    /// Adds a vector: an operation of r1, and r2 or a literal, into r3.
+    pub fn add(&mut self, vector: Computed) -> Result<(), AllocError> {
+        // ldq r1,0(r9), ldq r2,8(r9)
+        self.add_words(&[0xa429_0000, 0xa449_0008])?;
+        self.add_words(&[vector.word])?;
+        // ldq r4,16(r9), cmpeq r3,r4,r5, lda r9,24(r9), bne r5,1, halt
+        self.add_words(&[0xa489_0010, 0x4064_05a5, 0x2129_0018, 0xf4a0_0001, 0])?;
+        self.add_number(vector.a)?;
+        self.add_number(vector.b)?;
+        self.add_number(vector.result)?;
         Ok(())
     }
 
