@@ -20,13 +20,14 @@ use Rattle.om_image.specs.Layout.{text_base, data_base, text_limit, data_limit}
 use Rattle.om_image.specs.Written.{text_name, data_name, bss_name, map_name, text_place, data_place, map_place, named_place, image_headers, image_body, map_bytes, map_size, file_of}
 use Rattle.om_image.specs.MapFields.{map_of, is_map}
 use Rattle.om_image.specs.Rules.{section_address, section_size, section_place, section_bytes, image_of, is_uneven, breaks_head, heads_where, rule_4, rule_5, rule_6, rule_7, rule_8, rule_9, is_entry, is_unreadable, image_rules}
-use Rattle.om_image.specs.Valid.{IsValidImage}
-use Rattle.om_image.specs.RoundTrip.{HasWidths, WrittenIsRead}
+use Rattle.om_image.specs.Valid.{IsMap, IsInRange, IsValidImage}
+use Rattle.om_image.specs.RoundTrip.{HasWidths, WrittenIsRead, UnbrokenIsValid}
 use Rattle.om_image.proofs.Rounding.{rounded_above, rounded_below}
-use Rattle.om_image.proofs.Deciding.{neither, not_true, is_eq, is_not_lt}
+use Rattle.om_image.proofs.Deciding.{neither, not_true, is_eq, is_not_lt, neither_of, not_false, not_lt_of}
 use Rattle.om_image.proofs.Standing.{IsAt, whole, first_in, second_in, as_piece, at_place, number_in, bytes_in, inside}
-use Rattle.om_image.proofs.Pieces.{five_in, length_five, six_in, length_six, item_in, picked_nothing}
-use Rattle.om_image.proofs.MapBack.{map_length, map_reads}
+use Rattle.om_image.proofs.Pieces.{five_in, length_five, six_in, length_six, item_in, picked_nothing, nothing_picked}
+use Rattle.om_image.proofs.MapBack.{map_length, map_in_range, map_read_back, map_reads}
+use Rattle.om_image.proofs.Valid.{MapTests, map_tests, all_words, even, readable}
 
 -- ---- headers
 
@@ -228,6 +229,19 @@ empty_unbroken [] file h rule at b = b
 empty_unbroken (r ∷ rs) file h rule at (inl b) = subst (λ (xs : List ℕ). IsAmong xs at) h.0 b.1
 empty_unbroken (r ∷ rs) file h rule at (inr b) = empty_unbroken rs file h.1 rule at b
 
+no_item : (xs : List ℕ) → ((p : ℕ) → IsAmong xs p → ⊥) → xs ≡ []
+no_item [] h = refl
+no_item (x ∷ xs) h = absurd (h x (inl refl))
+
+unbroken_empty : (rules : List (Rule (List ℕ))) (file : List ℕ) → ((rule at : ℕ) → Breaks rules file rule at → ⊥) → AreEmpty rules file
+unfolding AreEmpty
+unbroken_empty [] file h = tt
+unbroken_empty (r ∷ rs) file h = (no_item (r.1 file) (λ p a. h r.0 p (inl (refl, a))), unbroken_empty rs file (λ rule at b. h rule at (inr b)))
+
+none_placed : (b : Bool) (at : ℕ) → place_if b at ≡ [] → b ≡ false
+none_placed true at h = cc
+none_placed false at h = refl
+
 place_none : (b : Bool) (at : ℕ) → b ≡ false → place_if b at ≡ []
 place_none b at h = ap (λ (t : Bool). place_if t at) h
 
@@ -262,7 +276,7 @@ some_none (Some x) h = refl
 
 -- ---- the file
 
-module _ (i : Image) (valid : IsValidImage i) (widths : HasWidths i) where
+module _ (i : Image) (range : IsInRange i) (widths : HasWidths i) where
   abbrev file : List ℕ
   file = file_of i
 
@@ -272,37 +286,32 @@ module _ (i : Image) (valid : IsValidImage i) (widths : HasWidths i) where
   abbrev text_size : ℕ
   text_size = 4 * length i.text
 
-  data_below : data_place text_size < 2 ^ 30
-  data_below = let e = rounded_below (text_place + text_size) 16 (omega arith) in let f = valid.text in omega (arith, e, f)
+  data_below : data_place text_size < 2 ^ 62 + 400
+  data_below = let e = rounded_below (text_place + text_size) 16 (omega arith) in let f = range.text in omega (arith, e, f)
 
-  map_below : map_place text_size (length i.bytes) < 2 ^ 31
+  map_below : map_place text_size (length i.bytes) < 2 ^ 64
   map_below =
       let e = rounded_below (data_place text_size + length i.bytes) 16 (omega arith) in
-      let f = valid.bytes in
+      let f = range.bytes in
       let g = data_below in
       omega (arith, e, f, g)
 
   text_head : HeadReads file 104 text_name text_base text_size (named_place text_size text_place)
   text_head =
-      let f = valid.text in
+      let f = range.text in
       head_reads stands.text_head refl (omega arith) (omega (arith, f)) (named_below text_size text_place (2 ^ 64) (omega arith))
 
   data_head : HeadReads file 168 data_name data_base (length i.bytes) (named_place (length i.bytes) (data_place text_size))
   data_head =
-      let f = valid.bytes in
+      let f = range.bytes in
       let g = data_below in
       head_reads stands.data_head refl (omega arith) (omega (arith, f)) (named_below (length i.bytes) (data_place text_size) (2 ^ 64) (omega (arith, g)))
 
   bss_head : HeadReads file 232 bss_name (data_base + length i.bytes) i.bss 0
-  bss_head =
-      let f = valid.bytes in
-      head_reads stands.bss_head refl (omega (arith, f)) (omega (arith, f)) (omega arith)
+  bss_head = let f = range.bytes in head_reads stands.bss_head refl (omega (arith, f)) widths.bss (omega arith)
 
   map_head : HeadReads file 296 map_name 0 (map_size i.map) (map_place text_size (length i.bytes))
-  map_head =
-      let f = valid.map.fits in
-      let g = map_below in
-      head_reads stands.map_head refl (omega arith) (omega (arith, f)) (omega (arith, g))
+  map_head = let f = range.map.fits in head_reads stands.map_head refl (omega arith) (omega (arith, f)) map_below
 
   magic : number_at file 0 2 ≡ 0x183
   magic = let l = front_length in number_in stands.front 0 2 0 refl (omega (arith, l)) ∙ magic_there
@@ -340,9 +349,6 @@ module _ (i : Image) (valid : IsValidImage i) (widths : HasWidths i) where
   words : section_size file 0 / 4 ≡ length i.text
   words = let e = text_head.size in omega (arith, e)
 
-  few : length i.text ≤ 4194304
-  few = let f = valid.text in omega (arith, f)
-
   text_is : words_at 0 (section_size file 0 / 4) (section_bytes file 0) ≡ i.text
   text_is =
       ap (λ (n : ℕ). words_at 0 n (section_bytes file 0)) words ∙ ap (λ (b : List ℕ). words_at 0 (length i.text) b) text_bytes ∙ words_are i.text widths.text
@@ -351,117 +357,205 @@ module _ (i : Image) (valid : IsValidImage i) (widths : HasWidths i) where
   image_back =
       same_image (number_at file 56 8) i.entry (number_at file 96 8) i.gp (words_at 0 (section_size file 0 / 4) (section_bytes file 0)) i.text
       (section_bytes file 1) i.bytes (section_size file 2) i.bss (map_of (section_bytes file 3)) i.map
-      entry_is gp_is text_is data_bytes bss_head.size (ap map_of map_part ∙ (map_reads (length i.text) i.map few valid.map widths.map).map)
+      entry_is gp_is text_is data_bytes bss_head.size (ap map_of map_part ∙ map_read_back i.map range.map widths.map)
 
   -- ---- the rules
 
-  long : 360 ≤ length file
-  long =
-      let e = inside stands.map_head in
-      let l = header_length map_name 0 (map_size i.map) (map_place text_size (length i.bytes)) refl in
-      omega (arith, e, l)
+  module _ (valid : IsValidImage i) where
+    few : length i.text ≤ 4194304
+    few = let f = valid.text in omega (arith, f)
 
-  kept_1 : rule_1 file ≡ []
-  kept_1 =
-      let l = long in
-      place_none _ 0 (neither _ _ (is_not_lt (length file) 24 (omega (arith, l))) (ap (λ (k : ℕ). not (k == 0x183)) magic))
+    long : 360 ≤ length file
+    long =
+        let e = inside stands.map_head in
+        let l = header_length map_name 0 (map_size i.map) (map_place text_size (length i.bytes)) refl in
+        omega (arith, e, l)
 
-  kept_2 : rule_2 file ≡ []
-  kept_2 = place_none _ 20 (ap (λ (k : ℕ). not (k == 80)) eighty)
+    kept_1 : rule_1 file ≡ []
+    kept_1 =
+        let l = long in
+        place_none _ 0 (neither _ _ (is_not_lt (length file) 24 (omega (arith, l))) (ap (λ (k : ℕ). not (k == 0x183)) magic))
 
-  kept_3 : rule_3 file ≡ []
-  kept_3 =
-      let l = long in
-      let e = four in
-      place_none _ 24 (is_not_lt (length file) (104 + 64 * section_count file) (omega (arith, l, e)))
+    kept_2 : rule_2 file ≡ []
+    kept_2 = place_none _ 20 (ap (λ (k : ℕ). not (k == 80)) eighty)
 
-  kept_4 : rule_4 file ≡ []
-  kept_4 =
-      ap (λ (n : ℕ). if n == 4 then heads_where Named file else 2 ∷ []) four
-      ∙ four_none (breaks_head Named file)
-      (ap (λ (b : List ℕ). not (bytes_eq text_name b)) text_head.name_at)
-      (ap (λ (b : List ℕ). not (bytes_eq data_name b)) data_head.name_at)
-      (ap (λ (b : List ℕ). not (bytes_eq bss_name b)) bss_head.name_at)
-      (ap (λ (b : List ℕ). not (bytes_eq map_name b)) map_head.name_at)
+    kept_3 : rule_3 file ≡ []
+    kept_3 =
+        let l = long in
+        let e = four in
+        place_none _ 24 (is_not_lt (length file) (104 + 64 * section_count file) (omega (arith, l, e)))
 
-  text_inside : breaks_head Inside file 0 ≡ false
-  text_inside =
-      ap (λ (p : ℕ). is_past (length file) p (section_size file 0)) text_head.place
-      ∙ ap (λ (n : ℕ). is_past (length file) (named_place text_size text_place) n) text_head.size
-      ∙ ap (λ (n : ℕ). is_past (length file) (named_place n text_place) n) (sym text_long) ∙ piece_inside (word_bytes i.text) stands.text
+    kept_4 : rule_4 file ≡ []
+    kept_4 =
+        ap (λ (n : ℕ). if n == 4 then heads_where Named file else 2 ∷ []) four
+        ∙ four_none (breaks_head Named file)
+        (ap (λ (b : List ℕ). not (bytes_eq text_name b)) text_head.name_at)
+        (ap (λ (b : List ℕ). not (bytes_eq data_name b)) data_head.name_at)
+        (ap (λ (b : List ℕ). not (bytes_eq bss_name b)) bss_head.name_at)
+        (ap (λ (b : List ℕ). not (bytes_eq map_name b)) map_head.name_at)
 
-  data_inside : breaks_head Inside file 1 ≡ false
-  data_inside =
-      ap (λ (p : ℕ). is_past (length file) p (section_size file 1)) data_head.place
-      ∙ ap (λ (n : ℕ). is_past (length file) (named_place (length i.bytes) (data_place text_size)) n) data_head.size ∙ piece_inside i.bytes stands.bytes
+    text_inside : breaks_head Inside file 0 ≡ false
+    text_inside =
+        ap (λ (p : ℕ). is_past (length file) p (section_size file 0)) text_head.place
+        ∙ ap (λ (n : ℕ). is_past (length file) (named_place text_size text_place) n) text_head.size
+        ∙ ap (λ (n : ℕ). is_past (length file) (named_place n text_place) n) (sym text_long) ∙ piece_inside (word_bytes i.text) stands.text
 
-  map_inside : breaks_head Inside file 3 ≡ false
-  map_inside =
-      let e = inside stands.map in
-      let l = map_length i.map in
-      ap (λ (p : ℕ). is_past (length file) p (section_size file 3)) map_head.place
-      ∙ ap (λ (n : ℕ). is_past (length file) (map_place text_size (length i.bytes)) n) map_head.size
-      ∙ past_none (length file) (map_place text_size (length i.bytes)) (map_size i.map) (λ some. omega (arith, e, l))
+    data_inside : breaks_head Inside file 1 ≡ false
+    data_inside =
+        ap (λ (p : ℕ). is_past (length file) p (section_size file 1)) data_head.place
+        ∙ ap (λ (n : ℕ). is_past (length file) (named_place (length i.bytes) (data_place text_size)) n) data_head.size ∙ piece_inside i.bytes stands.bytes
 
-  kept_5 : rule_5 file ≡ []
-  kept_5 = four_none (breaks_head Inside file) text_inside data_inside refl map_inside
+    map_inside : breaks_head Inside file 3 ≡ false
+    map_inside =
+        let e = inside stands.map in
+        let l = map_length i.map in
+        ap (λ (p : ℕ). is_past (length file) p (section_size file 3)) map_head.place
+        ∙ ap (λ (n : ℕ). is_past (length file) (map_place text_size (length i.bytes)) n) map_head.size
+        ∙ past_none (length file) (map_place text_size (length i.bytes)) (map_size i.map) (λ some. omega (arith, e, l))
 
-  text_placed : breaks_head Placed file 0 ≡ false
-  text_placed =
-      let f = valid.text in
-      let even : text_size % 4 ≡ 0 = omega arith in
-      neither _ _ (ap (λ (a : ℕ). not (a == text_base)) text_head.address)
-      (ap is_uneven text_head.size
-      ∙ neither _ _ (ap (λ (n : ℕ). not (n == 0)) even) (is_not_lt text_limit text_size f))
+    kept_5 : rule_5 file ≡ []
+    kept_5 = four_none (breaks_head Inside file) text_inside data_inside refl map_inside
 
-  data_placed : breaks_head Placed file 1 ≡ false
-  data_placed =
-      let f = valid.bytes in
-      neither _ _ (ap (λ (a : ℕ). not (a == data_base)) data_head.address)
-      (ap (λ (n : ℕ). nat_lt data_limit (n + section_size file 2)) data_head.size
-      ∙ ap (λ (n : ℕ). nat_lt data_limit (length i.bytes + n)) bss_head.size ∙ is_not_lt data_limit (length i.bytes + i.bss) f)
+    text_placed : breaks_head Placed file 0 ≡ false
+    text_placed =
+        let f = valid.text in
+        let even : text_size % 4 ≡ 0 = omega arith in
+        neither _ _ (ap (λ (a : ℕ). not (a == text_base)) text_head.address)
+        (ap is_uneven text_head.size
+        ∙ neither _ _ (ap (λ (n : ℕ). not (n == 0)) even) (is_not_lt text_limit text_size f))
 
-  bss_placed : breaks_head Placed file 2 ≡ false
-  bss_placed =
-      let a = bss_head.address in
-      let s = data_head.size in
-      neither _ _ (not_true (section_address file 2 == data_base + section_size file 1) (is_eq (section_address file 2) (data_base + section_size file 1) (omega (arith, a, s)))) refl
+    data_placed : breaks_head Placed file 1 ≡ false
+    data_placed =
+        let f = valid.bytes in
+        neither _ _ (ap (λ (a : ℕ). not (a == data_base)) data_head.address)
+        (ap (λ (n : ℕ). nat_lt data_limit (n + section_size file 2)) data_head.size
+        ∙ ap (λ (n : ℕ). nat_lt data_limit (length i.bytes + n)) bss_head.size ∙ is_not_lt data_limit (length i.bytes + i.bss) f)
 
-  map_placed : breaks_head Placed file 3 ≡ false
-  map_placed = neither _ _ (ap (λ (a : ℕ). not (a == 0)) map_head.address) refl
+    bss_placed : breaks_head Placed file 2 ≡ false
+    bss_placed =
+        let a = bss_head.address in
+        let s = data_head.size in
+        neither _ _ (not_true (section_address file 2 == data_base + section_size file 1) (is_eq (section_address file 2) (data_base + section_size file 1) (omega (arith, a, s)))) refl
 
-  kept_6 : rule_6 file ≡ []
-  kept_6 = four_none (breaks_head Placed file) text_placed data_placed bss_placed map_placed
+    map_placed : breaks_head Placed file 3 ≡ false
+    map_placed = neither _ _ (ap (λ (a : ℕ). not (a == 0)) map_head.address) refl
 
-  kept_7 : rule_7 file ≡ []
-  kept_7 =
-      place_none _ 56
-      (not_true _ (ap (λ (n : ℕ). is_entry n (number_at file 56 8)) text_head.size ∙ ap (λ (e : ℕ). is_entry text_size e) entry_is ∙ valid.entry))
+    kept_6 : rule_6 file ≡ []
+    kept_6 = four_none (breaks_head Placed file) text_placed data_placed bss_placed map_placed
 
-  kept_8 : rule_8 file ≡ []
-  kept_8 =
-      place_none _ (section_place file 3)
-      (not_true _ (ap (λ (n : ℕ). is_map n (section_bytes file 3)) words ∙ ap (λ (b : List ℕ). is_map (length i.text) b) map_part
-      ∙ (map_reads (length i.text) i.map few valid.map widths.map).kept))
+    kept_7 : rule_7 file ≡ []
+    kept_7 =
+        place_none _ 56
+        (not_true _ (ap (λ (n : ℕ). is_entry n (number_at file 56 8)) text_head.size ∙ ap (λ (e : ℕ). is_entry text_size e) entry_is ∙ valid.entry))
 
-  readable : (k : ℕ) → k < length i.text → is_unreadable (section_bytes file 0) (0 + k) ≡ false
-  readable k below =
-      let z : 0 + k ≡ k = omega arith in
-      ap (λ (j : ℕ). is_unreadable (section_bytes file 0) j) z ∙ ap (λ (b : List ℕ). is_unreadable b k) text_bytes
-      ∙ ap (λ (w : ℕ). is_none (instr_of w)) (word_is i.text widths.text k below)
-      ∙ some_none (instr_of (get_or i.text k 0)) (valid.words k 0 below)
+    kept_8 : rule_8 file ≡ []
+    kept_8 =
+        place_none _ (section_place file 3)
+        (not_true _ (ap (λ (n : ℕ). is_map n (section_bytes file 3)) words ∙ ap (λ (b : List ℕ). is_map (length i.text) b) map_part
+        ∙ (map_reads (length i.text) i.map few valid.map widths.map).kept))
 
-  kept_9 : rule_9 file ≡ []
-  kept_9 =
-      ap (λ (n : ℕ). picked (is_unreadable (section_bytes file 0)) (λ k. section_place file 0 + 4 * k) n) words
-      ∙ picked_nothing (is_unreadable (section_bytes file 0)) (λ k. section_place file 0 + 4 * k) 0 (length i.text) readable
+    word_readable : (k : ℕ) → k < length i.text → is_unreadable (section_bytes file 0) (0 + k) ≡ false
+    word_readable k below =
+        let z : 0 + k ≡ k = omega arith in
+        ap (λ (j : ℕ). is_unreadable (section_bytes file 0) j) z ∙ ap (λ (b : List ℕ). is_unreadable b k) text_bytes
+        ∙ ap (λ (w : ℕ). is_none (instr_of w)) (word_is i.text widths.text k below)
+        ∙ some_none (instr_of (get_or i.text k 0)) (valid.words k 0 below)
 
-  empty : AreEmpty image_rules file
-  unfolding AreEmpty
-  empty = (kept_1, (kept_2, (kept_3, (kept_4, (kept_5, (kept_6, (kept_7, (kept_8, (kept_9, tt)))))))))
+    kept_9 : rule_9 file ≡ []
+    kept_9 =
+        ap (λ (n : ℕ). picked (is_unreadable (section_bytes file 0)) (λ k. section_place file 0 + 4 * k) n) words
+        ∙ picked_nothing (is_unreadable (section_bytes file 0)) (λ k. section_place file 0 + 4 * k) 0 (length i.text) word_readable
 
-  pub image_kept : IsUnbroken image_rules file
-  image_kept = record { nowhere = λ rule at b. empty_unbroken image_rules file empty rule at b }
+    empty : AreEmpty image_rules file
+    unfolding AreEmpty
+    empty = (kept_1, (kept_2, (kept_3, (kept_4, (kept_5, (kept_6, (kept_7, (kept_8, (kept_9, tt)))))))))
+
+    pub image_kept : IsUnbroken image_rules file
+    image_kept = record { nowhere = λ rule at b. empty_unbroken image_rules file empty rule at b }
+
+  -- ---- what the rules say of the image
+
+  module _ (unbroken : IsUnbroken image_rules file) where
+    are_empty : AreEmpty image_rules file
+    are_empty = unbroken_empty image_rules file unbroken.nowhere
+
+    placed : (k : ℕ) → k < 4 → breaks_head Placed file (0 + k) ≡ false
+    unfolding AreEmpty
+    placed k below = nothing_picked (breaks_head Placed file) header_at 0 4 are_empty.1.1.1.1.1.0 k below
+
+    text_fits : (4 * (text_size / 4) ≡ text_size) × (text_size ≤ text_limit)
+    text_fits = even text_size (sym (ap is_uneven text_head.size) ∙ (neither_of _ _ (placed 0 (omega arith))).1)
+
+    data_fits : length i.bytes + i.bss ≤ data_limit
+    data_fits =
+        let h = not_lt_of data_limit (section_size file 1 + section_size file 2) (neither_of _ _ (placed 1 (omega arith))).1 in
+        let e = data_head.size in
+        let f = bss_head.size in
+        omega (arith, h, e, f)
+
+    entry_fits : is_entry text_size i.entry ≡ true
+    unfolding AreEmpty
+    entry_fits =
+        sym (ap (λ (n : ℕ). is_entry n (number_at file 56 8)) text_head.size ∙ ap (λ (e : ℕ). is_entry text_size e) entry_is)
+        ∙ not_false _ (none_placed _ 56 are_empty.1.1.1.1.1.1.0)
+
+    map_fits : is_map (length i.text) (map_bytes i.map) ≡ true
+    unfolding AreEmpty
+    map_fits =
+        sym (ap (λ (n : ℕ). is_map n (section_bytes file 3)) words ∙ ap (λ (b : List ℕ). is_map (length i.text) b) map_part)
+        ∙ not_false _ (none_placed _ (section_place file 3) are_empty.1.1.1.1.1.1.1.0)
+
+    map_valid : IsMap (length i.text) i.map
+    map_valid =
+        let t : MapTests (length i.text) i.map =
+        subst (MapTests (length i.text)) (map_read_back i.map range.map widths.map) (map_tests (length i.text) (map_bytes i.map) map_fits) in
+        record {
+          few_objects = range.map.few_objects;
+          few_tables = range.map.few_tables;
+          few_slots = range.map.few_slots;
+          few_regions = range.map.few_regions;
+          few_words = range.map.few_words;
+          fits = range.map.fits;
+          total = t.total;
+          objects = t.objects;
+          slots = t.slots;
+          regions = t.regions;
+          words = t.words;
+        }
+
+    words_valid : All (λ w. is_some (instr_of w) ≡ true) i.text
+    unfolding AreEmpty
+    words_valid =
+        subst (λ (ws : List ℕ). All (λ w. is_some (instr_of w) ≡ true) ws) text_is
+        (all_words (λ w. is_some (instr_of w) ≡ true) 0 (section_size file 0 / 4) (section_bytes file 0)
+        (λ j c. let z : 0 + j ≡ j = omega arith in
+        readable (section_bytes file 0) j (sym (ap (is_unreadable (section_bytes file 0)) z)
+        ∙ nothing_picked (is_unreadable (section_bytes file 0)) (λ k. section_place file 0 + 4 * k) 0 (section_size file 0 / 4)
+        are_empty.1.1.1.1.1.1.1.1.0 j c)))
+
+    pub image_valid : IsValidImage i
+    image_valid = record {
+      text = text_fits.1;
+      bytes = data_fits;
+      entry = entry_fits;
+      map = map_valid;
+      words = words_valid;
+    }
+
+range_of : (i : Image) → IsValidImage i → IsInRange i
+range_of i valid =
+    let t = valid.text in
+    let b = valid.bytes in
+    record {
+      text = omega (arith, t);
+      bytes = omega (arith, b);
+      map = map_in_range (length i.text) i.map (omega (arith, t)) valid.map;
+    }
 
 pub all_read : WrittenIsRead
-all_read i widths valid = record { image = image_back i valid widths; unbroken = image_kept i valid widths }
+all_read i widths valid =
+    let range = range_of i valid in
+    record { image = image_back i range widths; unbroken = image_kept i range widths valid }
+
+pub all_valid : UnbrokenIsValid
+all_valid i widths range unbroken = image_valid i range widths unbroken

@@ -1,7 +1,7 @@
 -- A written map is read as itself.
 use Rattle.std.proofs.Common.{◌≡◌, ◌<◌, ◌≤◌, ◌+◌, ◌-◌, ◌*◌, ◌^◌, ℕ, zero, suc, Bool, true, false, List, [], ◌∷◌, ◌++◌, length, get_or, refl, sym, ap, ◌∙◌, subst, length-append, arith}
 use native.Mathlib.Decide.{dec_lt}
-use Rattle.std.specs.Prelude.{sum_by, flat_map, ◌==◌, nat_le, bytes_eq, if◌then◌else◌}
+use Rattle.std.specs.Prelude.{sum_by, flat_map, ◌==◌, nat_le, bytes_eq, if◌then◌else◌, slice_index_or}
 use Rattle.std.proofs.lemmas.List.Sums.{sum_by-append}
 use Rattle.byteorder.specs.Endian.{little_from}
 use Rattle.byteorder.specs.Numbers.{little_number-reads_back}
@@ -17,7 +17,7 @@ use Rattle.om_image.specs.declared.map.Map.{Map}
 use Rattle.om_image.specs.declared.part.Part.TheVariants.{Object, Table, Slot, Extent, Word}
 use Rattle.om_image.specs.Written.{u32_bytes, mark, map_head, map_bytes, map_size, slot_count, slot_bytes, slots_bytes, object_bytes, table_bytes, region_bytes, source_bytes}
 use Rattle.om_image.specs.MapFields.{objects_in, tables_in, regions_in, words_in, tables_at, slots_at, slots_of, slots_before, slots_in, regions_at, words_at, map_end, object_at, slot_at, table_at, map_region_at, source_at, map_of, is_fine_slot, is_fine, are_fine, object_words, is_marked, holds_tables, is_filled, has_fine_parts, is_map}
-use Rattle.om_image.specs.Valid.{IsMap}
+use Rattle.om_image.specs.Valid.{IsMap, IsMapInRange}
 use Rattle.om_image.specs.RoundTrip.{HasMapWidths}
 use Rattle.om_image.proofs.Deciding.{both, is_eq, is_lt, is_le}
 use Rattle.om_image.proofs.Below.{all_true, sum_next}
@@ -176,7 +176,7 @@ pub record CountsRead (b : List ℕ) (m : Map) : Type 0 where
   pub regions : regions_in b ≡ length m.regions
   pub words : words_in b ≡ length m.words
 
-counts_read : {b : List ℕ} {count : ℕ} (m : Map) → MapStands b m → IsMap count m → CountsRead b m
+counts_read : {b : List ℕ} (m : Map) → MapStands b m → IsMapInRange m → CountsRead b m
 counts_read {b} m s fine =
     let o = length m.objects in
     let t = length m.tables in
@@ -191,11 +191,15 @@ counts_read {b} m s fine =
       words = number_in s.head 20 4 20 refl (omega (arith, long)) ∙ words_there o t r w fine.few_words;
     }
 
+position_below : (k : Bool) (p : ℕ) → p < 2 ^ 31 → p < (if k then 2 ^ 31 else 2 ^ 31 + 1)
+position_below true p h = h
+position_below false p h = omega (arith, h)
+
 -- ---- the tables and their slots
 
-module _ (b : List ℕ) (m : Map) (count : ℕ) (s : MapStands b m) (fine : IsMap count m) (widths : HasMapWidths m) where
+module _ (b : List ℕ) (m : Map) (s : MapStands b m) (range : IsMapInRange m) (widths : HasMapWidths m) where
   counts : CountsRead b m
-  counts = counts_read m s fine
+  counts = counts_read m s range
 
   tables_start : tables_at b ≡ 24 + 8 * length m.objects
   tables_start = let e = counts.objects in omega (arith, e)
@@ -211,7 +215,7 @@ module _ (b : List ℕ) (m : Map) (count : ℕ) (s : MapStands b m) (fine : IsMa
       table_reads (get_or m.tables k no_table)
       (at_place (item_in 16 table_bytes (λ j. 24 + 8 * length m.objects + 16 * j) table_length (step_16 (24 + 8 * length m.objects)) m.tables 0
       (at_place s.tables z) k no_table below) e)
-      (widths.tables k no_table below).start (fine.few_slots k no_table below)
+      (widths.tables k no_table below).start (range.few_slots k no_table below)
 
   slots_are : (k : ℕ) → k < length m.tables → slots_of b k ≡ length (get_or m.tables k no_table).slots
   slots_are k below = (header k below).count
@@ -252,7 +256,7 @@ module _ (b : List ℕ) (m : Map) (count : ℕ) (s : MapStands b m) (fine : IsMa
       let e : p + 24 * (0 + j) ≡ p + 24 * j = omega arith in
       slot_back (get_or t.slots j (Num 0))
       (at_place (item_in 24 slot_bytes (λ i. p + 24 * i) slot_length (step_24 p) t.slots 0 (at_place (table_slots k below) z) j (Num 0) inner) e)
-      ((widths.tables k no_table below).slots j (Num 0) inner) (fine.slots k no_table below j (Num 0) inner)
+      ((widths.tables k no_table below).slots j (Num 0) inner) (range.slots k no_table below j (Num 0) inner)
 
   -- how many slots there are before a table, and in all
   counted_from : (ts : List MapTable) (k : ℕ) → ((j : ℕ) → j < length ts → slots_of b (k + j) ≡ length (get_or ts j no_table).slots)
@@ -340,35 +344,33 @@ module _ (b : List ℕ) (m : Map) (count : ℕ) (s : MapStands b m) (fine : IsMa
       each_all (λ k. map_region_at b (regions_at b + 32 * k)) m.regions 0 no_extent
       (λ j d. let z : 0 + j ≡ j = omega arith in
       ap (λ (k : ℕ). map_region_at b (regions_at b + 32 * k)) z
-      ∙ (extent_back (get_or m.regions j no_extent) (extent_in j d) (widths.regions j no_extent d) (fine.regions j no_extent d)).extent)
+      ∙ (extent_back (get_or m.regions j no_extent) (extent_in j d) (widths.regions j no_extent d) (range.regions j no_extent d)).extent)
 
-  -- positions are those of a text that fits
-  module _ (few : count ≤ 4194304) where
-    position_fits : (w : MapWord) → w.position < (if w.kept then count else count + 1) → w.position < 2 ^ 31
-    position_fits w h = by_kept w.kept w.position h
-      where
-        by_kept : (k : Bool) (p : ℕ) → p < (if k then count else count + 1) → p < 2 ^ 31
-        by_kept true p h = omega (arith, h, few)
-        by_kept false p h = omega (arith, h, few)
+  source_back_at : (k : ℕ) → k < length m.words → source_at b (words_at b + 8 * k) ≡ get_or m.words k no_source
+  source_back_at k d =
+      let w = get_or m.words k no_source in
+      let p = range.positions k no_source d in
+      (source_back (2 ^ 31) w (source_in k d) (widths.words k no_source d) p (position_below w.kept w.position p)).source
 
+  sources_are : each (λ k. source_at b (words_at b + 8 * k)) (length m.words) ≡ m.words
+  sources_are =
+      each_all (λ k. source_at b (words_at b + 8 * k)) m.words 0 no_source
+      (λ j d. let z : 0 + j ≡ j = omega arith in ap (λ (k : ℕ). source_at b (words_at b + 8 * k)) z ∙ source_back_at j d)
+
+  pub map_back : map_of b ≡ m
+  map_back =
+      same_map (each (λ k. object_at b (24 + 8 * k)) (objects_in b)) m.objects (each (table_at b) (tables_in b)) m.tables
+      (each (λ k. map_region_at b (regions_at b + 32 * k)) (regions_in b)) m.regions (each (λ k. source_at b (words_at b + 8 * k)) (words_in b)) m.words
+      (ap (λ (n : ℕ). each (λ k. object_at b (24 + 8 * k)) n) counts.objects ∙ objects_are)
+      (ap (λ (n : ℕ). each (table_at b) n) counts.tables ∙ tables_are)
+      (ap (λ (n : ℕ). each (λ k. map_region_at b (regions_at b + 32 * k)) n) counts.regions ∙ extents_are)
+      (ap (λ (n : ℕ). each (λ k. source_at b (words_at b + 8 * k)) n) counts.words ∙ sources_are)
+
+  module _ (count : ℕ) (fine : IsMap count m) where
     source_reads : (k : ℕ) (d : k < length m.words) → SourceReads b (words_at b + 8 * k) count (get_or m.words k no_source)
     source_reads k d =
         let w = get_or m.words k no_source in
-        source_back count w (source_in k d) (widths.words k no_source d) (position_fits w (fine.words k no_source d)) (fine.words k no_source d)
-
-    sources_are : each (λ k. source_at b (words_at b + 8 * k)) (length m.words) ≡ m.words
-    sources_are =
-        each_all (λ k. source_at b (words_at b + 8 * k)) m.words 0 no_source
-        (λ j d. let z : 0 + j ≡ j = omega arith in ap (λ (k : ℕ). source_at b (words_at b + 8 * k)) z ∙ (source_reads j d).source)
-
-    pub map_back : map_of b ≡ m
-    map_back =
-        same_map (each (λ k. object_at b (24 + 8 * k)) (objects_in b)) m.objects (each (table_at b) (tables_in b)) m.tables
-        (each (λ k. map_region_at b (regions_at b + 32 * k)) (regions_in b)) m.regions (each (λ k. source_at b (words_at b + 8 * k)) (words_in b)) m.words
-        (ap (λ (n : ℕ). each (λ k. object_at b (24 + 8 * k)) n) counts.objects ∙ objects_are)
-        (ap (λ (n : ℕ). each (table_at b) n) counts.tables ∙ tables_are)
-        (ap (λ (n : ℕ). each (λ k. map_region_at b (regions_at b + 32 * k)) n) counts.regions ∙ extents_are)
-        (ap (λ (n : ℕ). each (λ k. source_at b (words_at b + 8 * k)) n) counts.words ∙ sources_are)
+        source_back count w (source_in k d) (widths.words k no_source d) (range.positions k no_source d) (fine.words k no_source d)
 
     -- ---- the rule on maps
 
@@ -426,8 +428,30 @@ pub record MapReads (count : ℕ) (m : Map) : Type 0 where
   pub map : map_of (map_bytes m) ≡ m
   pub kept : is_map count (map_bytes m) ≡ true
 
-pub map_reads : (count : ℕ) (m : Map) → count ≤ 4194304 → IsMap count m → HasMapWidths m → MapReads count m
-map_reads count m few fine widths = record {
-  map = map_back (map_bytes m) m count (map_stands m) fine widths few;
-  kept = map_kept (map_bytes m) m count (map_stands m) fine widths few (map_length m);
+pub map_read_back : (m : Map) → IsMapInRange m → HasMapWidths m → map_of (map_bytes m) ≡ m
+map_read_back m range widths = map_back (map_bytes m) m (map_stands m) range widths
+
+position_fits : (count : ℕ) → count ≤ 4194304 → (k : Bool) (p : ℕ) → p < (if k then count else count + 1) → p < 2 ^ 31
+position_fits count few true p h = omega (arith, h, few)
+position_fits count few false p h = omega (arith, h, few)
+
+pub map_in_range : (count : ℕ) (m : Map) → count ≤ 4194304 → IsMap count m → IsMapInRange m
+map_in_range count m few fine = record {
+  few_objects = fine.few_objects;
+  few_tables = fine.few_tables;
+  few_slots = fine.few_slots;
+  few_regions = fine.few_regions;
+  few_words = fine.few_words;
+  fits = fine.fits;
+  slots = fine.slots;
+  regions = fine.regions;
+  positions = λ k d b. let w = slice_index_or m.words k d in position_fits count few w.kept w.position (fine.words k d b);
 }
+
+pub map_reads : (count : ℕ) (m : Map) → count ≤ 4194304 → IsMap count m → HasMapWidths m → MapReads count m
+map_reads count m few fine widths =
+    let range = map_in_range count m few fine in
+    record {
+      map = map_read_back m range widths;
+      kept = map_kept (map_bytes m) m (map_stands m) range widths count fine (map_length m);
+    }

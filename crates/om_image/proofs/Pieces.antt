@@ -1,5 +1,5 @@
 -- Pieces one after the other, and lists of items that are spelled one after the other.
-use Rattle.std.proofs.Common.{◌≡◌, ◌<◌, ◌+◌, ℕ, zero, suc, Bool, false, List, [], ◌∷◌, ◌++◌, length, get_or, refl, sym, ap, ◌∙◌, length-append, arith}
+use Rattle.std.proofs.Common.{◌≡◌, ◌<◌, ◌+◌, ℕ, zero, suc, Bool, false, List, [], ◌∷◌, ◌++◌, length, get_or, refl, sym, ap, ◌∙◌, length-append, arith, true}
 use Rattle.std.specs.Prelude.{flat_map}
 use Rattle.om_fields.specs.Places.{each_from, put_if, picked_from}
 use Rattle.om_image.proofs.Standing.{IsAt, first_in, second_in, at_place}
@@ -98,3 +98,16 @@ picked_nothing {X} test f k (suc n) h =
     let t : test k ≡ false = ap test (sym e) ∙ h 0 (omega arith) in
     let more = picked_nothing test f (k + 1) n (λ j b. let q : k + 1 + j ≡ k + suc j = omega arith in ap test q ∙ h (suc j) (omega arith)) in
     ap (λ (b : Bool). put_if b (f k) (picked_from test f (k + 1) n)) t ∙ more
+
+put_nothing : {X : Type 0} (b : Bool) (x : X) (xs : List X) → put_if b x xs ≡ [] → (b ≡ false) × (xs ≡ [])
+put_nothing true x xs h = cc
+put_nothing false x xs h = (refl, h)
+
+pub nothing_picked : {X : Type 0} (test : ℕ → Bool) (f : ℕ → X) (k n : ℕ) → picked_from test f k n ≡ [] → (j : ℕ) → j < n → test (k + j) ≡ false
+nothing_picked test f k zero h j b = absurd (omega arith)
+nothing_picked test f k (suc n) h zero b =
+    let e : k + 0 ≡ k = omega arith in
+    ap test e ∙ (put_nothing (test k) (f k) (picked_from test f (k + 1) n) h).0
+nothing_picked test f k (suc n) h (suc j) b =
+    let e : k + suc j ≡ k + 1 + j = omega arith in
+    ap test e ∙ nothing_picked test f (k + 1) n (put_nothing (test k) (f k) (picked_from test f (k + 1) n) h).1 j (omega arith)

@@ -10,6 +10,7 @@ use Rattle.om_fields.proofs.Each.{each_from-snoc, each_from-get, each_from-lengt
 use Rattle.om_fields.proofs.Numbers.{length-words_at}
 use Rattle.om_isa.specs.Words.{instr_of}
 use Rattle.om_image.specs.declared.image.Image.{Image}
+use Rattle.om_image.specs.declared.map.Map.{Map}
 use Rattle.om_image.specs.declared.map.Region.TheVariants.{Sec, Common, Stack}
 use Rattle.om_image.specs.declared.map.Target.{Target}
 use Rattle.om_image.specs.declared.map.Target.TheVariants.{Num, Ptr, Code}
@@ -132,27 +133,20 @@ few b k small =
     let f = below_32 b (tables_start b + 16 * k + 8) small in
     omega (arith, e, f)
 
+pub record MapTests (count : ℕ) (m : Map) : Type 0 where
+  pub total : sum_by (λ o. o.words) m.objects ≡ length m.words
+  pub objects : All (λ o. o.table < length m.tables) m.objects
+  pub slots : All (λ t. All IsSlot t.slots) m.tables
+  pub regions : All (λ r. IsInMap r.region) m.regions
+  pub words : All (λ w. w.position < (if w.kept then count else count + 1)) m.words
+
 -- the map of bytes that are one
-pub map_fine : (count : ℕ) (b : List ℕ) → is_map count b ≡ true → IsSmall b → length b < 2 ^ 63 → IsMap count (map_of b)
-map_fine count b h small short =
+pub map_tests : (count : ℕ) (b : List ℕ) → is_map count b ≡ true → MapTests count (map_of b)
+map_tests count b h =
     let facts = map_facts count b h in
-    let objects = each_from-length (λ k. object_at b (24 + 8 * k)) 0 (objects_in b) in
     let tables = each_from-length (table_at b) 0 (tables_in b) in
-    let regions = each_from-length (λ k. map_region_at b (regions_at b + 32 * k)) 0 (regions_in b) in
     let words = each_from-length (λ k. source_at b (words_start b + 8 * k)) 0 (words_in b) in
-    let n_objects = below_32 b 8 small in
-    let n_tables = below_32 b 12 small in
-    let n_regions = below_32 b 16 small in
-    let n_words = below_32 b 20 small in
-    let slots : slot_count (each (table_at b) (tables_in b)) ≡ slots_in b = slots_are b in
-    let ends = facts.ends in
     record {
-      few_objects = omega (arith, objects, n_objects);
-      few_tables = omega (arith, tables, n_tables);
-      few_slots = all_each_of (λ t. length t.slots < 2 ^ 32) (table_at b) (tables_in b) (λ k c. few b k small);
-      few_regions = omega (arith, regions, n_regions);
-      few_words = omega (arith, words, n_words);
-      fits = omega (arith, objects, tables, regions, words, slots, ends, short);
       total = sum_each (λ o. o.words) (λ k. object_at b (24 + 8 * k)) (objects_in b) ∙ facts.total ∙ sym words;
       objects = all_each_of (λ o. o.table < length (each (table_at b) (tables_in b))) (λ k. object_at b (24 + 8 * k)) (objects_in b)
           (λ k c. let e = lt_of _ _ (all_each (is_fine Object b 24 (tables_in b)) (objects_in b) facts.objects k c) in omega (arith, e, tables));
@@ -164,9 +158,36 @@ map_fine count b h small short =
           (λ k c. lt_of _ _ (all_each (is_fine Word b (words_start b) count) (words_in b) facts.words k c));
     }
 
+pub map_fine : (count : ℕ) (b : List ℕ) → is_map count b ≡ true → IsSmall b → length b < 2 ^ 63 → IsMap count (map_of b)
+map_fine count b h small short =
+    let tests = map_tests count b h in
+    let objects = each_from-length (λ k. object_at b (24 + 8 * k)) 0 (objects_in b) in
+    let tables = each_from-length (table_at b) 0 (tables_in b) in
+    let regions = each_from-length (λ k. map_region_at b (regions_at b + 32 * k)) 0 (regions_in b) in
+    let words = each_from-length (λ k. source_at b (words_start b + 8 * k)) 0 (words_in b) in
+    let n_objects = below_32 b 8 small in
+    let n_tables = below_32 b 12 small in
+    let n_regions = below_32 b 16 small in
+    let n_words = below_32 b 20 small in
+    let slots : slot_count (each (table_at b) (tables_in b)) ≡ slots_in b = slots_are b in
+    let ends = (map_facts count b h).ends in
+    record {
+      few_objects = omega (arith, objects, n_objects);
+      few_tables = omega (arith, tables, n_tables);
+      few_slots = all_each_of (λ t. length t.slots < 2 ^ 32) (table_at b) (tables_in b) (λ k c. few b k small);
+      few_regions = omega (arith, regions, n_regions);
+      few_words = omega (arith, words, n_words);
+      fits = omega (arith, objects, tables, regions, words, slots, ends, short);
+      total = tests.total;
+      objects = tests.objects;
+      slots = tests.slots;
+      regions = tests.regions;
+      words = tests.words;
+    }
+
 -- ---- the image
 
-even : (size : ℕ) → is_uneven size ≡ false → (4 * (size / 4) ≡ size) × (size ≤ text_limit)
+pub even : (size : ℕ) → is_uneven size ≡ false → (4 * (size / 4) ≡ size) × (size ≤ text_limit)
 even size h =
     let e = neither_of _ _ h in
     let f = eq_of (size % 4) 0 (not_false (size % 4 == 0) e.0) in
@@ -181,7 +202,7 @@ some_words size e h =
     let high = lt_of e (text_base + size) a.1 in
     omega (arith, low, high)
 
-readable : (text : List ℕ) (j : ℕ) → is_unreadable text j ≡ false → is_some (instr_of (number_at text (0 + 4 * j) 4)) ≡ true
+pub readable : (text : List ℕ) (j : ℕ) → is_unreadable text j ≡ false → is_some (instr_of (number_at text (0 + 4 * j) 4)) ≡ true
 readable text j h =
     let e : 0 + 4 * j ≡ 4 * j = omega arith in
     ap (λ (q : ℕ). is_some (instr_of (number_at text q 4))) e ∙ by_option (instr_of (number_at text (4 * j) 4)) h

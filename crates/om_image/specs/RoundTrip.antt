@@ -12,7 +12,7 @@ use Rattle.om_image.specs.declared.map.Map.{Map}
 use Rattle.om_image.specs.declared.image.Image.{Image}
 use Rattle.om_image.specs.Written.{file_of}
 use Rattle.om_image.specs.Rules.{image_rules, image_of}
-use Rattle.om_image.specs.Valid.{IsValidImage}
+use Rattle.om_image.specs.Valid.{IsInRange, IsValidImage}
 
 -- the numbers of an image are below the widths of their types
 pub record HasSecWidths (object section : ℕ) : Type 0 where
@@ -66,3 +66,7 @@ pub record ReadsBack (i : Image) : Type 0 where
 
 abbrev pub WrittenIsRead : Type 0
 WrittenIsRead = (i : Image) → HasWidths i → IsValidImage i → ReadsBack i
+
+-- an image is valid if its file breaks no rule
+abbrev pub UnbrokenIsValid : Type 0
+UnbrokenIsValid = (i : Image) → HasWidths i → IsInRange i → IsUnbroken image_rules (file_of i) → IsValidImage i

@@ -43,3 +43,21 @@ pub record IsValidImage (i : Image) : Type 0 where
   pub entry : is_entry (4 * length i.text) i.entry ≡ true
   pub map : IsMap (length i.text) i.map
   pub words : All (λ w. is_some (instr_of w) ≡ true) i.text
+
+-- the lists of a map can be counted in their fields, its positions fit below the bit beside them, and it has no stack
+pub record IsMapInRange (m : Map) : Type 0 where
+  pub few_objects : length m.objects < 2 ^ 32
+  pub few_tables : length m.tables < 2 ^ 32
+  pub few_slots : All (λ t. length t.slots < 2 ^ 32) m.tables
+  pub few_regions : length m.regions < 2 ^ 32
+  pub few_words : length m.words < 2 ^ 32
+  pub fits : map_size m < 2 ^ 63
+  pub slots : All (λ t. All IsSlot t.slots) m.tables
+  pub regions : All (λ r. IsInMap r.region) m.regions
+  pub positions : All (λ w. w.position < 2 ^ 31) m.words
+
+-- an image whose file can say what it has
+pub record IsInRange (i : Image) : Type 0 where
+  pub text : 4 * length i.text < 2 ^ 62
+  pub bytes : length i.bytes < 2 ^ 62
+  pub map : IsMapInRange i.map

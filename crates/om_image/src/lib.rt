@@ -23,5 +23,5 @@ pub use errors::ImageErr;
 pub use image::Image;
 pub use map::{Map, MapObj, MapRegion, MapTable, MapWord, Place, Region, Target};
 pub use reading::read_image;
-pub use round_trip::written_is_read;
+pub use round_trip::{unbroken_is_valid, written_is_read};
 pub use writing::write_image;
