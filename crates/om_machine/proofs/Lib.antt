@@ -4,3 +4,4 @@ pub mod Taking
 pub mod Calling
 pub mod Stepping
 pub mod Running
+pub mod Growing
