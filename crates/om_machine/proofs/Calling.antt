@@ -1,5 +1,5 @@
 -- System calls over states.
-use Rattle.std.proofs.Common.{◌≡◌, ◌≤◌, ◌⊎◌, ℕ, zero, suc, ◌+◌, List, [], ◌∷◌, ◌++◌, length, take, drop, Bool, true, false, Option, Some, Ok, Err, refl, ap, sym, subst, ◌∙◌, inl, inr, arith, length-take}
+use Rattle.std.proofs.Common.{◌≡◌, ◌≤◌, ◌⊎◌, ℕ, zero, suc, ◌+◌, List, [], ◌∷◌, ◌++◌, length, take, drop, true, false, Option, Some, None, Ok, Err, refl, ap, sym, subst, ◌∙◌, append_assoc, inl, inr, arith, length-take}
 use Rattle.std.proofs.lemmas.List.{take-append-drop}
 use Rattle.om_io.specs.Outside.{IsFrontOf}
 use Rattle.om_isa.specs.SystemCall as call
@@ -96,22 +96,24 @@ length-bytes_from f a zero = refl
 length-bytes_from f a (suc n) = let r = length-bytes_from f (a + 1) n in omega (arith, r)
 
 -- a sink told what was put, or a front of it
-told_put : (tells : Bool) (old new : Option (List ℕ)) (text bytes : List ℕ) → ((xs : List ℕ) → old ≡ Some xs → Puts xs new bytes true) → TellsText tells old text → TellsText tells new (text ++ bytes)
-told_put true old new text bytes put told = put text told
-told_put false old new text bytes put told = tt
+told_put : (tells : Option (List ℕ)) (old new : Option (List ℕ)) (text bytes : List ℕ) → ((xs : List ℕ) → old ≡ Some xs → Puts xs new bytes true) → TellsText tells old text → TellsText tells new (text ++ bytes)
+told_put (Some before) old new text bytes put told =
+    put (before ++ text) told ∙ ap Some (append_assoc before text bytes)
+told_put None old new text bytes put told = tt
 
-record IsFront (tells : Bool) (new : Option (List ℕ)) (text bytes : List ℕ) : Type 0 where
+record IsFront (tells : Option (List ℕ)) (new : Option (List ℕ)) (text bytes : List ℕ) : Type 0 where
   front : List ℕ
   is_front : IsFrontOf front bytes
   told : TellsText tells new (text ++ front)
 
-told_front : (tells : Bool) (old new : Option (List ℕ)) (text bytes : List ℕ) → ((xs : List ℕ) → old ≡ Some xs → Puts xs new bytes false) → TellsText tells old text → IsFront tells new text bytes
-told_front true old new text bytes put told =
-    let p = put text told in record { front = p.0; is_front = p.1; told = p.2 }
-told_front false old new text bytes put told =
+told_front : (tells : Option (List ℕ)) (old new : Option (List ℕ)) (text bytes : List ℕ) → ((xs : List ℕ) → old ≡ Some xs → Puts xs new bytes false) → TellsText tells old text → IsFront tells new text bytes
+told_front (Some before) old new text bytes put told =
+    let p = put (before ++ text) told in
+    record { front = p.0; is_front = p.1; told = p.2 ∙ ap Some (append_assoc before text p.0) }
+told_front None old new text bytes put told =
     record { front = []; is_front = (bytes, refl); told = tt }
 
-module _ (v w : View) (left : Option (List ℕ)) (tells : Bool) (old new : Option (List ℕ)) (other : Told) (bytes : List ℕ) (s : NumState) where
+module _ (v w : View) (left : Option (List ℕ)) (tells : Option (List ℕ)) (old new : Option (List ℕ)) (other : Told) (bytes : List ℕ) (s : NumState) where
   pub puts_out : (n : ℕ) → length bytes ≡ n → ((i o e : List ℕ) → state_of w i o e ≡ answers (state_of v i o e) n 0) → ((xs : List ℕ) → old ≡ Some xs → Puts xs new bytes true) → IsState v left (tells, old) other s → IsState w left (tells, new) other (answers (puts_on s 1 bytes) (length bytes) 0)
   puts_out n count answered put h =
       record {

@@ -5,3 +5,4 @@ pub mod Calling
 pub mod Fronts
 pub mod Stepping
 pub mod Running
+pub mod Growing

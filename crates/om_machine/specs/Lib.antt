@@ -5,3 +5,4 @@ pub mod Actions
 pub mod Streams
 pub mod Calls
 pub mod Steps
+pub mod Writing

@@ -1,18 +1,18 @@
 -- What is moved from a source to memory, and what is known of a sink.
-use Rattle.std.specs.Prelude.{◌≡◌, ◌≤◌, ◌<◌, ◌++◌, ◌⊎◌, ℕ, List, [], length, take, drop, Bool, true, false, Option, Some, Result, Ok, Err}
+use Rattle.std.specs.Prelude.{◌≡◌, ◌≤◌, ◌<◌, ◌++◌, ◌⊎◌, ℕ, List, [], length, take, drop, Bool, true, false, Option, Some, None, Result, Ok, Err}
 use Rattle.om_io.specs.Outside.{IsFrontOf}
 use Rattle.om_image.specs.NumAccess.{written}
 use Rattle.om_machine.specs.Mapped.{Mapped}
 use Rattle.om_machine.specs.Memory.{memory_of}
 
--- whether a sink tells, and what it told last
+-- what a sink that tells had told before the run, and what it told last; the first is none where nothing is said of it
 abbrev pub Told : Type 0
-Told = Bool × Option (List ℕ)
+Told = Option (List ℕ) × Option (List ℕ)
 
--- a sink that tells has told this text
-abbrev pub TellsText : Bool → Option (List ℕ) → List ℕ → Type 0
-TellsText true told text = told ≡ Some text
-TellsText false told text = Unit {0}
+-- a sink has told this text behind what it had told before
+abbrev pub TellsText : Option (List ℕ) → Option (List ℕ) → List ℕ → Type 0
+TellsText (Some before) told text = told ≡ Some (before ++ text)
+TellsText None told text = Unit {0}
 
 abbrev pub Tells : Told → List ℕ → Type 0
 Tells sink text = TellsText sink.0 sink.1 text

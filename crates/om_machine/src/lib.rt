@@ -5,6 +5,7 @@
 #![tactic(auto)]
 
 mod actions;
+mod laws;
 mod loading;
 mod machine;
 mod memory;
@@ -13,4 +14,5 @@ mod streams;
 #[cfg(test)]
 mod tests;
 
+pub use laws::runs_only_write;
 pub use machine::{Machine, Step};

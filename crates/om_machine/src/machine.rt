@@ -532,9 +532,9 @@ impl Machine {
     fn call<I: Source, O: Sink, E: Sink>(&mut self, input: &mut I, out: &mut O, err: &mut E) -> Step
         requires running { self.old.end ≡ None }
         requires place { self.old.pc < 2 ^ 63 }
-        ensures calls { (s : NumState) (out_tells err_tells : Bool)
-            → IsState self.old (I.left input.old) (out_tells, O.written out.old) (err_tells, E.written err.old) s
-            → CallsTo self.old result s self.new (I.left input.new) (out_tells, O.written out.new) (err_tells, E.written err.new) }
+        ensures calls { (s : NumState) (out_before err_before : Option (List ℕ))
+            → IsState self.old (I.left input.old) (out_before, O.written out.old) (err_before, E.written err.old) s
+            → CallsTo self.old result s self.new (I.left input.new) (out_before, O.written out.new) (err_before, E.written err.new) }
         ensures answer { IsAnswer result self.new.end }
         ensures read_fault { result ≡ Step.ReadFault → IsTaking (view_call self.old) × Rose (I.faults input.old) (I.faults input.new) }
         ensures write_fault { result ≡ Step.WriteFault → (IsPutting 1 (view_call self.old) × Rose (O.faults out.old) (O.faults out.new))
@@ -598,9 +598,9 @@ impl Machine {
         out: &mut O,
         err: &mut E,
     ) -> Step
-        ensures steps { (i : Image) (s : NumState) (out_tells err_tells : Bool) → HasImage i self.old
-            → IsState self.old (I.left input.old) (out_tells, O.written out.old) (err_tells, E.written err.old) s
-            → StepsTo i result s self.new (I.left input.new) (out_tells, O.written out.new) (err_tells, E.written err.new) }
+        ensures steps { (i : Image) (s : NumState) (out_before err_before : Option (List ℕ)) → HasImage i self.old
+            → IsState self.old (I.left input.old) (out_before, O.written out.old) (err_before, E.written err.old) s
+            → StepsTo i result s self.new (I.left input.new) (out_before, O.written out.new) (err_before, E.written err.new) }
         ensures image { (i : Image) → HasImage i self.old → HasImage i self.new }
         ensures answer { IsAnswer result self.new.end }
         ensures ended { IsSome self.old.end → (self.new ≡ self.old) × (input.new ≡ input.old) × (out.new ≡ out.old) × (err.new ≡ err.old) }
@@ -631,9 +631,9 @@ impl Machine {
         out: &mut O,
         err: &mut E,
     ) -> Step
-        ensures runs { (i : Image) (s : NumState) (out_tells err_tells : Bool) → HasImage i self.old
-            → IsState self.old (I.left input.old) (out_tells, O.written out.old) (err_tells, E.written err.old) s
-            → RunsTo i steps result s self.new (I.left input.new) (out_tells, O.written out.new) (err_tells, E.written err.new) }
+        ensures runs { (i : Image) (s : NumState) (out_before err_before : Option (List ℕ)) → HasImage i self.old
+            → IsState self.old (I.left input.old) (out_before, O.written out.old) (err_before, E.written err.old) s
+            → RunsTo i steps result s self.new (I.left input.new) (out_before, O.written out.new) (err_before, E.written err.new) }
         ensures image { (i : Image) → HasImage i self.old → HasImage i self.new }
         ensures answer { IsAnswer result self.new.end }
         ensures read_fault { result ≡ Step.ReadFault → Rose (I.faults input.old) (I.faults input.new) }
