@@ -1,4 +1,6 @@
--- What the word at a place does, in a program and in a rewritten graph.
+-- What the word at a place does, in a program and in a rewritten graph, and the scripts that a run runs. LITERAL and
+-- GPDISP are relocations of the ECOFF object format; what may stand in the registers that they need, and the acts that
+-- rewriting makes, are this project's own.
 use Rattle.std.specs.Prelude.{ℕ, Bool, ◌==◌, if◌then◌else◌, List, [], ◌∷◌, Option}
 use Rattle.om_isa.specs.declared.instr.BrOp.{BrOp}
 use Rattle.om_isa.specs.declared.instr.Instr.{Instr}
@@ -13,9 +15,9 @@ use Rattle.om_prog.specs.Cells.{Cell}
 
 pub data Act : Type 0 where
   Plain : (instr : Instr) → Act
-  -- a LITERAL load
+  -- an LDQ under a LITERAL: over the global pointer of its object it gives the target
   Lit : (ra rb : ℕ) (target : Target) → Act
-  -- the halves of a GPDISP
+  -- the halves under a GPDISP: over the base place the first gives a half, over that the second gives the global pointer
   GpHi : (ra rb : ℕ) (base : Place) → Act
   GpLo : (ra rb : ℕ) (hi : Place) → Act
   -- a branch
@@ -29,6 +31,7 @@ pub data Act : Type 0 where
   -- what no program holds: it shows an address
   Wrong : Act
 
+-- a word that is there, with its place
 pub record Word : Type 0 where
   pub at : Place
   pub act : Act
@@ -39,12 +42,13 @@ pub record Script : Type 0 where
   pub fetch : Place → Option Word
   -- whether a place is that of a word of the program
   pub lands : Place → Bool
-  -- the table of an object
+  -- the table of an object: global pointers are known by it
   pub table : ℕ → ℕ
   pub entry : Place
   pub sizes : Region → ℕ
   pub cells : Region → ℕ → Cell
 
+-- the base register of a load or store
 abbrev pub base_of : Instr → ℕ
 base_of (Mem op ra rb disp) = rb
 base_of _ = 31
@@ -54,6 +58,7 @@ abbrev pub stored_reads : Access → ℕ → List ℕ
 stored_reads Store ra = ra ∷ []
 stored_reads _ ra = []
 
+-- the registers that a load or store reads apart from its base
 abbrev pub used_reads : Instr → List ℕ
 used_reads (Mem op ra rb disp) = stored_reads (access_of op) ra
 used_reads _ = []

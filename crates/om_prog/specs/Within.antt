@@ -1,4 +1,4 @@
--- Codes in values: each is a place of K.
+-- All places in code that a value, a cell, a state or a word holds are places of K.
 use Rattle.std.specs.Prelude.{◌≡◌, ◌⊎◌, ℕ}
 use Rattle.om_isa.specs.declared.instr.BrOp.{BrOp}
 use Rattle.om_isa.specs.declared.instr.BrOp.TheVariants.{If}
