@@ -2,7 +2,6 @@ pub mod Ranges
 pub mod Starting
 pub mod Taking
 pub mod Calling
-pub mod Fronts
 pub mod Stepping
 pub mod Running
 pub mod Growing
