@@ -64,26 +64,31 @@ one_more_step : (i : Image) (xs : List ℕ) (n : ℕ) → num_run i xs (suc n) �
 unfolding num_steps
 one_more_step i xs n = refl
 
-module _ (i : Image) (steps : ℕ) (v : View) (start : (input : List ℕ) → state_of v input [] [] ≡ num_start i input) (old : Streams) (xs : List ℕ) where
-  pub first_is : old.input.told ≡ Some xs → IsState v old.input.told (old.out.told, old.out.told) (old.err.told, old.err.told) (num_start i xs)
-  unfolding num_start
-  first_is told = record {
-    machine = start xs;
-    input = told;
-    out = starts_told old.out.told;
-    err = starts_told old.err.told;
-  }
+-- the machine at the start
+pub first_is : (i : Image) (v : View) → ((input : List ℕ) → state_of v input [] [] ≡ num_start i input) → (xs : List ℕ)
+    (left out err : Option (List ℕ)) → left ≡ Some xs → IsState v left (out, out) (err, err) (num_start i xs)
+unfolding num_start
+first_is i v start xs left out err told = record {
+  machine = start xs;
+  input = told;
+  out = starts_told out;
+  err = starts_told err;
+}
 
+module _ (i : Image) (steps : ℕ) (old : Streams) (xs : List ℕ) where
   module _ (w : View) (new : Streams) where
     -- the run came to a state
     pub arrived : (answer : Step) →
         Arrives answer (num_run i xs steps) w new.input.told (old.out.told, new.out.told) (old.err.told, new.err.told) →
         StandsAt (num_run i xs steps) old new × IsAnswerOf answer (num_run i xs steps).end
-    arrived answer a = (record {
-      input = a.state.input;
-      out = ends_told old.out.told new.out.told (num_run i xs steps).out a.state.out;
-      err = ends_told old.err.told new.err.told (num_run i xs steps).err a.state.err;
-    }, a.answer_is)
+    arrived answer a = (
+      record {
+        input = a.state.input;
+        out = ends_told old.out.told new.out.told (num_run i xs steps).out a.state.out;
+        err = ends_told old.err.told new.err.told (num_run i xs steps).err a.state.err;
+      },
+      a.answer_is,
+    )
 
     -- a read failed
     pub read_failed : FailsReading i steps (num_start i xs) w new.input.told (old.out.told, new.out.told) (old.err.told, new.err.told) →

@@ -39,7 +39,7 @@ pub struct Computed {
 }
 
 /// What `alu WORD A B RESULT no` says, where nothing overflows.
-pub fn computed(line: &str) -> Option<Computed> {
+pub fn vector_of(line: &str) -> Option<Computed> {
     let rest = line.strip_prefix("alu ")?;
     let (word, rest) = rest.split_once(' ')?;
     let (a, rest) = rest.split_once(' ')?;

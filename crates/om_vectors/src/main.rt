@@ -19,7 +19,7 @@ fn main(rt: HostRuntime) -> io::Result<()> {
     let mut trial = Trial::new(rt.alloc())?;
     for line in rt.lines(rt.alloc()) {
         let line = line?;
-        if let Some(vector) = lines::computed(line.as_str()) {
+        if let Some(vector) = lines::vector_of(line.as_str()) {
             trial.add(vector)?;
             tried = tried.saturating_add(1);
         }
