@@ -1,4 +1,5 @@
 // Links that were worked by hand, over stores and streams in memory.
+use crate::loading::{FileStop, Refused, load_objects};
 use crate::om;
 use om_io::{Bytes, Failed, LoadErr, MemSink, MemStore, NullSink, NullSource, Store};
 use std::alloc::Global;
@@ -240,5 +241,31 @@ fn says_that_a_file_is_too_long(rt: HostRuntime) -> Result<(), Fail> {
     );
     assert_eq!(rt; err.bytes(), b"limit bytes a.o\n".as_slice());
     assert_eq!(rt; (store.loads, store.saves), (1, 0));
+    Ok(())
+}
+
+// Loads the files of a store by their names, and says how many objects there are, or which file gives none and why.
+fn loaded(alloc: Global, names: &str, store_fails: &[u64]) -> Result<Result<usize, Refused>, Fail> {
+    let mut store = store(alloc, exits_seven(alloc, 368)?, store_fails)?;
+    match load_objects(alloc, words(alloc, names)?.as_slice(), &mut store) {
+        Ok(objects) => Ok(Ok(objects.as_slice().len())),
+        Err(refused) => Ok(Err(refused)),
+    }
+}
+
+#[test]
+fn several_files_are_loaded(rt: HostRuntime) -> Result<(), Fail> {
+    let alloc = rt.alloc();
+    let missing = Refused {
+        place: 1,
+        stop: FileStop::Missing,
+    };
+    let fault = Refused {
+        place: 1,
+        stop: FileStop::ReadFault,
+    };
+    assert!(rt; loaded(alloc, "a.o a.o a.o", &[])? == Ok(3));
+    assert!(rt; loaded(alloc, "a.o b.o a.o", &[])? == Err(missing));
+    assert!(rt; loaded(alloc, "a.o a.o", &[1])? == Err(fault));
     Ok(())
 }
