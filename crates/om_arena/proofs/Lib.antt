@@ -1,0 +1,7 @@
+pub mod Calls
+pub mod Changes
+pub mod Edits
+pub mod Laws
+pub mod Orders
+pub mod Walks
+pub mod Writes

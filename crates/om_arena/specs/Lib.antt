@@ -1,0 +1,4 @@
+pub mod Inserted
+pub mod Lends
+pub mod Linked
+pub mod Lists

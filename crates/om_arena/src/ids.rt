@@ -1,0 +1,79 @@
+//! The names of an arena's lists and values.
+ghost use Rattle.std.specs.Prelude.{◌≡◌};
+
+use std::marker::{Model, PhantomData};
+
+/// A list of an arena, numbered from 0 in the order in which the lists were added.
+#[derive(Clone, Copy, PartialEq, Eq, Debug)]
+pub struct ListId {
+    number: usize,
+}
+
+impl Model for ListId {
+    ghost use Rattle.std.specs.Prelude.{ℕ};
+
+    ghost Value = { ℕ };
+
+    ghost view = { λ l. l.number };
+
+    ghost inverse = { λ n. record { number = n } };
+}
+
+impl ListId {
+    pub(crate) fn new(number: usize) -> ListId
+        ensures { result ≡ number }
+    {
+        ListId { number }
+    }
+
+    /// How many lists were added before this one.
+    pub fn number(self) -> usize
+        ensures { result ≡ self }
+    {
+        self.number
+    }
+}
+
+/// The place of one value of the type `T`. It is live from the insertion that gave it to the removal of its
+/// value; a later insertion may give it again.
+#[derive_where(Clone, Copy, PartialEq, Eq, Debug)]
+pub struct Id<T> {
+    key: usize,
+    of: PhantomData<T>,
+}
+
+impl<T> Model for Id<T> {
+    ghost use Rattle.std.specs.Prelude.{ℕ};
+
+    ghost Value = { ℕ };
+
+    ghost view = { λ i. i.key };
+
+    ghost inverse = { λ n. record { key = n; of = record {} } };
+}
+
+impl<T> Id<T> {
+    pub(crate) fn new(key: usize) -> Id<T>
+        ensures { result ≡ key }
+    {
+        Id {
+            key,
+            of: PhantomData,
+        }
+    }
+
+    pub(crate) fn key(self) -> usize
+        ensures { result ≡ self }
+    {
+        self.key
+    }
+
+    pub(crate) fn of_key(key: Option<usize>) -> Option<Id<T>>
+        ensures { result ≡ key }
+    {
+        match key {
+            Some(key) => Some(Id::new(key)),
+            None => None,
+        }
+    }
+}
