@@ -14,11 +14,11 @@ use Rattle.om_prog.specs.Script.{retabled, init_cell, field_cell, initial}
 use Rattle.om_prog.specs.declared.region.RegionInit.{RegionInit}
 use Rattle.om_prog.proofs.Codes.{CellsWithin, bytes_within, parts_within, index_within}
 
-pub HasInit : List RegionInit → RegionInit → Type 0
+unfoldable pub HasInit : List RegionInit → RegionInit → Type 0
 HasInit [] x = ⊥
 HasInit (i ∷ is) x = (i ≡ x) ⊎ HasInit is x
 
-pub HasField : List Field → Field → Type 0
+unfoldable pub HasField : List Field → Field → Type 0
 HasField [] x = ⊥
 HasField (f ∷ fs) x = (f ≡ x) ⊎ HasField fs x
 

@@ -1,0 +1,12 @@
+//! The graph of a program: blocks of words that passes rewrite in place; and in specs/ its run and what it is for a
+//! pass to keep a program's meaning.
+#![tactic(auto)]
+
+mod laws;
+mod op;
+
+pub use laws::{
+    checked_facts_hold, checked_masks_hold, graphs_of_programs, lift_keeps_meaning, passes_compose,
+    runs_stay_in_kept_set, some_step_is_left_in,
+};
+pub use op::{Last, Op, OpKind};
