@@ -1,0 +1,10 @@
+pub mod Small
+pub mod Fits
+pub mod Sound
+pub mod Memory
+pub mod Access
+pub mod Agree
+pub mod After
+pub mod Steps
+pub mod Coded
+pub mod Rows
