@@ -1,0 +1,11 @@
+pub mod Numbers
+pub mod Fragments
+pub mod Resizing
+pub mod Ranges
+pub mod Taking
+pub mod First
+pub mod States
+pub mod Calling
+pub mod Stepping
+pub mod Running
+pub mod Growing

@@ -1,0 +1,10 @@
+pub mod RegionCells
+pub mod CellsIn
+pub mod Memory
+pub mod Actions
+pub mod Starting
+pub mod View
+pub mod Streams
+pub mod Calls
+pub mod Steps
+pub mod Writing
