@@ -107,16 +107,16 @@ fn long_after(bytes: &[u8], at: u64, k: u64) -> u64
                 + 256 * (byte_after(bytes, at, k + 2) + 256 * byte_after(bytes, at, k + 3)))
 }
 
-// The 32 bits at an offset; bytes past the list are zero.
-fn long(bytes: &[u8], at: u64) -> u64
+/// The 32 bits at an offset; bytes past the list are zero.
+pub fn long(bytes: &[u8], at: u64) -> u64
     ensures gives { result ≡ number_at bytes.now at 4 }
     ensures small { result < 4294967296 }
 {
     long_after(bytes, at, 0)
 }
 
-// The 64 bits at an offset; bytes past the list are zero.
-fn quad(bytes: &[u8], at: u64) -> u64
+/// The 64 bits at an offset; bytes past the list are zero.
+pub fn quad(bytes: &[u8], at: u64) -> u64
     ensures { result ≡ number_at bytes.now at 8 }
 {
     long_after(bytes, at, 0) + 4294967296 * long_after(bytes, at, 4)
@@ -158,8 +158,8 @@ fn misses_quad(p: &Parts, s: &Section, r: &Reloc) -> bool
     is_no_word(p, quad(s.bytes.as_slice(), offset(s, r)), section(p, 1))
 }
 
-// The address that a GPREL32 which is not external holds.
-fn gp_address(p: &Parts, s: &Section, r: &Reloc) -> u64
+/// The address that a GPREL32 which is not external holds.
+pub fn gp_address(p: &Parts, s: &Section, r: &Reloc) -> u64
     ensures { result ≡ moved p.now.gp (value_of_gp s.now r.now) }
 {
     let bits = long(s.bytes.as_slice(), offset(s, r)) as u32;

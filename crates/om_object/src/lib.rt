@@ -2,7 +2,7 @@
 #![tactic(auto)]
 
 mod claimed;
-mod entry;
+pub mod entry;
 mod errors;
 mod faults;
 mod file_parts;
@@ -11,7 +11,7 @@ mod file_tests;
 mod flags;
 mod heads;
 mod instructions;
-mod kinds;
+pub mod kinds;
 mod lituse;
 #[cfg(test)]
 mod made_tests;
@@ -38,7 +38,7 @@ mod thin_file;
 mod tool_files;
 #[cfg(test)]
 mod tool_tests;
-mod words;
+pub mod words;
 
 pub use errors::{MakeErr, ObjErr};
 pub use object::{Object, read_object};

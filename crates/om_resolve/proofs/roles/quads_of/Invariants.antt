@@ -1,0 +1,6 @@
+use Rattle.std.proofs.Common.{◌≡◌, ℕ, ◌+◌, ◌*◌, ◌^◌, ◌<◌, ◌≤◌, List, [], ◌∷◌, ◌++◌, length, map, fold, take, drop, slice_index_or}
+use Rattle.om_resolve.specs.Maps.{HasQuads}
+use Rattle.om_resolve.proofs.roles.quads_of.Given as goal
+
+abbrev pub invariant-loop-k : goal.invariant-loop-k
+invariant-loop-k l = HasQuads l.lita l.entries (take l.k l.lita.relocs)

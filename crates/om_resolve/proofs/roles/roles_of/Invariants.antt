@@ -1,0 +1,9 @@
+use Rattle.std.proofs.Common.{◌≡◌, ℕ, ◌+◌, ◌*◌, ◌^◌, ◌<◌, ◌≤◌, List, [], ◌∷◌, ◌++◌, length, map, fold, take, drop, slice_index_or}
+use Rattle.om_fields.specs.Places.{joined}
+use Rattle.om_object.specs.Rules.{reloc_at}
+use Rattle.om_resolve.specs.Program.{roles_at}
+use Rattle.om_resolve.specs.Maps.{HasRoles}
+use Rattle.om_resolve.proofs.roles.roles_of.Given as goal
+
+abbrev pub invariant-loop-k : goal.invariant-loop-k
+invariant-loop-k l = HasRoles l.roles (joined (λ k. roles_at l.l.objects.now l.obj l.s (reloc_at l.s k)) l.k)

@@ -1,0 +1,11 @@
+pub mod Names
+pub mod Targets
+pub mod Findings
+pub mod Causes
+pub mod Program
+pub mod Known
+pub mod Linked
+pub mod Maps
+pub mod Slots
+pub mod Totals
+pub mod Rows

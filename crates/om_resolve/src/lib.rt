@@ -1,0 +1,24 @@
+//! Names of a list of objects, and the program that the objects are.
+#![tactic(auto)]
+
+mod aims;
+mod causes;
+mod definition;
+mod fields;
+mod finding;
+mod linked;
+mod names;
+mod prefixes;
+mod regions;
+mod resolving;
+mod roles;
+mod scans;
+#[cfg(test)]
+mod test_objects;
+#[cfg(test)]
+mod tests;
+mod texts;
+mod totals;
+
+pub use causes::{ResolveErr, Which};
+pub use resolving::resolve;
