@@ -117,6 +117,19 @@ const LARGE_HEAP: &[u32] = &[
     0x201f_0001,
     0x83,
 ];
+// the same with ldah r16,256(r9), which makes the heap as large as it may be
+const FULL_HEAP: &[u32] = &[
+    0x201f_0011,
+    0x221f_0000,
+    0x83,
+    0x47e0_0409,
+    0x2609_0100,
+    0x201f_0011,
+    0x83,
+    0x47e0_0410,
+    0x201f_0001,
+    0x83,
+];
 // lda r16,1(r31), lda r17,-8192(r30), lda r18,4097(r31), lda r0,4(r31), callsys, lda r16,0(r31), lda r0,1(r31), callsys
 const WRITES: &[u32] = &[
     0x221f_0001,
@@ -224,6 +237,7 @@ fn the_heap_has_an_end(rt: HostRuntime) -> Result<(), Fail> {
         ran(HEAP, "run p", 1, "exit 5\n"),
         ran(PAST_HEAP, "run p", 4, "trap access 0000000120000020\n"),
         ran(LARGE_HEAP, "run p", 1, "exit 12\n"),
+        ran(FULL_HEAP, "run p", 0, ""),
     ];
     for row in rows {
         assert!(rt; agrees(rt.alloc(), row)?, "{}", row.line);

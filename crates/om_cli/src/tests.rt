@@ -118,7 +118,16 @@ fn links_three_words(rt: HostRuntime) -> Result<(), Fail> {
 
 // The words; how many bytes of the file there are, and one byte that is put into it; the calls of the store and of the
 // error stream that fail; the status, and what is on the error stream.
-const REFUSED: [(&str, usize, (usize, u8), &[u64], &[u64], u8, &str); 13] = [
+const REFUSED: [(&str, usize, (usize, u8), &[u64], &[u64], u8, &str); 14] = [
+    (
+        "run a.o",
+        368,
+        (0, 0x83),
+        &[],
+        &[],
+        9,
+        "image rule 4 at 2\n",
+    ),
     ("", 368, (0, 0x83), &[], &[], 2, "usage 1\n"),
     ("link -O0 -o p", 368, (0, 0x83), &[], &[], 2, "usage 5\n"),
     ("link a.o", 368, (0, 0x83), &[], &[], 2, "usage 2\n"),
