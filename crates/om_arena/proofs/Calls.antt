@@ -4,7 +4,7 @@ use Rattle.std.proofs.lemmas.Bool.{cases_lt}
 use Rattle.std.proofs.lemmas.List.{append_assoc, append-nil, map-append, get_or_past, length-set, length-append}
 use Rattle.std.proofs.lemmas.List.Sums.{sum_by-set}
 use Rattle.std.specs.Map.{lookup, keys_of}
-use Rattle.slab.specs.Slab.{Slab, get}
+use Rattle.om_arena.specs.Keyed.{Keyed, get}
 use Rattle.om_arena.specs.Linked.{head, next_in, Represents, IsLinked, next_at, prev_at, value_at, lists_of, no_ends, slots_after, slots_before, ends_after, ends_before, CanWrite}
 use Rattle.om_arena.specs.Lists.{IsApart, AreApart, home, with_after, without, with_value, written, first_id, id_after}
 use Rattle.om_arena.specs.Inserted.{IsInserted}
@@ -98,11 +98,11 @@ module _ {T : Type 0} where
         let plain : (get_or ends list no_ends).last ≡ last_or None (keys_of (get_or lists list [])) = cc in
         ap (λ (x : Ends). x.last) at ∙ plain
 
-  pub can_after : (s : Slab (Node T)) (ends : List Ends) (list : ℕ) (at : Option ℕ) (x : Option ℕ) → list < length ends → next_at s.slots ends list at ≡ Some x → CanWrite s ends list at
+  pub can_after : (s : Keyed (Node T)) (ends : List Ends) (list : ℕ) (at : Option ℕ) (x : Option ℕ) → list < length ends → next_at s.slots ends list at ≡ Some x → CanWrite s ends list at
   can_after s ends list None x within known = within
   can_after s ends list (Some id) x within known = let f = node_with (λ (n : Node T). n.link.after) (get s id) list x known in ap is_some f.1
 
-  pub can_before : (s : Slab (Node T)) (ends : List Ends) (list : ℕ) (at : Option ℕ) (x : Option ℕ) → list < length ends → prev_at s.slots ends list at ≡ Some x → CanWrite s ends list at
+  pub can_before : (s : Keyed (Node T)) (ends : List Ends) (list : ℕ) (at : Option ℕ) (x : Option ℕ) → list < length ends → prev_at s.slots ends list at ≡ Some x → CanWrite s ends list at
   can_before s ends list None x within known = within
   can_before s ends list (Some id) x within known = let f = node_with (λ (n : Node T). n.link.before) (get s id) list x known in ap is_some f.1
 
@@ -255,7 +255,7 @@ module _ {T : Type 0} where
       prev m own same k (Some j) = same_part nodes id n m is own (λ (x : Node T). x.link.before) same k j
 
   -- the view after a write: its lists are written, and as many nodes are there
-  pub seen_written : (s : Slab (Node T)) (ends : List Ends) (id key : ℕ) (n m : Node T) (w : T) → get s key ≡ Some n → key ≡ id → Becomes (set (lists_of s.slots ends) (home id (lists_of s.slots ends)) (with_value id w (get_or (lists_of s.slots ends) (home id (lists_of s.slots ends)) []))) (set s.slots id (Some m)) ends → record { lists = lists_of (set s.slots key (Some m)) ends; spare = s.capacity - count_by is_some (set s.slots key (Some m)) } ≡ written (record { lists = lists_of s.slots ends; spare = s.capacity - count_by is_some s.slots }) id w
+  pub seen_written : (s : Keyed (Node T)) (ends : List Ends) (id key : ℕ) (n m : Node T) (w : T) → get s key ≡ Some n → key ≡ id → Becomes (set (lists_of s.slots ends) (home id (lists_of s.slots ends)) (with_value id w (get_or (lists_of s.slots ends) (home id (lists_of s.slots ends)) []))) (set s.slots id (Some m)) ends → record { lists = lists_of (set s.slots key (Some m)) ends; spare = s.capacity - count_by is_some (set s.slots key (Some m)) } ≡ written (record { lists = lists_of s.slots ends; spare = s.capacity - count_by is_some s.slots }) id w
   seen_written s ends id key n m w is at b =
       ap (λ (ls : List (List (ℕ × T))). record { lists = ls; spare = s.capacity - count_by is_some (set s.slots key (Some m)) }) (ap (λ (k : ℕ). lists_of (set s.slots k (Some m)) ends) at ∙ b.are)
       ∙ ap (λ (k : ℕ). record { lists = set (lists_of s.slots ends) (home id (lists_of s.slots ends)) (with_value id w (get_or (lists_of s.slots ends) (home id (lists_of s.slots ends)) [])); spare = s.capacity - k }) same

@@ -1,7 +1,7 @@
 -- How an `Arena` lays out its lists. No public clause cites this module.
 use Rattle.std.specs.Prelude.{◌≡◌, ◌≢◌, ℕ, zero, suc, ◌<◌, eqb, List, [], ◌∷◌, map, length, Option, Some, None, IsSome, slice_index_or, slice_set, option_map, if◌then◌else◌, Bool, true, false, ⊤}
 use Rattle.std.specs.Map.{lookup, keys_of}
-use Rattle.slab.specs.Slab.{Slab, get}
+use Rattle.om_arena.specs.Keyed.{Keyed, get}
 use Rattle.om_arena.specs.Lists.{AreApart}
 use Rattle.om_arena.specs.declared.links.Node.{Node}
 use Rattle.om_arena.specs.declared.links.Ends.{Ends}
@@ -102,6 +102,6 @@ module _ {T : Type 0} where
   slots_before nodes (Some id) to = slice_set nodes id (option_map (λ (n : Node T). record n { link = record (n.link) { before = to } }) (slice_index_or nodes id None))
 
   -- there is such a place: its list has ends, its id a node
-  abbrev pub CanWrite : Slab (Node T) → List Ends → ℕ → Option ℕ → Type 0
+  abbrev pub CanWrite : Keyed (Node T) → List Ends → ℕ → Option ℕ → Type 0
   CanWrite nodes ends list None = list < length ends
   CanWrite nodes ends list (Some id) = IsSome (get nodes id)

@@ -6,7 +6,7 @@ ghost use Rattle.om_arena.specs.Lists.{IsList, IsLive, TakesOne, items, value_of
 use crate::causes::NoMemory;
 use crate::ids::{Id, ListId};
 use crate::links::{Ends, Link, Links, Node};
-use slab::Slab;
+use crate::slots::{KEYS, Slots};
 use std::alloc::Global;
 use std::marker::Model;
 
@@ -18,7 +18,7 @@ pub struct Arena<T> {
 
 impl<T> Model for Arena<T> {
     ghost use Rattle.std.specs.Prelude.{◌-◌};
-    ghost use Rattle.slab.specs.Slab.{slab_len};
+    ghost use Rattle.om_arena.specs.Keyed.{live_count};
     ghost use Rattle.om_arena.specs.Lists.{Arena as Lists, arena_code};
 
     ghost Value = { Lists T };
@@ -29,7 +29,7 @@ impl<T> Model for Arena<T> {
 
     ghost view = { λ a. record {
       lists = lists_of a.links.nodes.slots a.links.ends.items;
-      spare = a.links.nodes.capacity - slab_len a.links.nodes;
+      spare = a.links.nodes.capacity - live_count a.links.nodes;
     } };
 
     ghost invariant = { λ a. IsLinked a.links.nodes.slots a.links.ends.items };
@@ -45,7 +45,7 @@ impl<T> Arena<T> {
     {
         Arena {
             links: Links {
-                nodes: Slab::new(alloc),
+                nodes: Slots::new(alloc),
                 ends: Vec::new(alloc),
             },
         }
@@ -59,12 +59,15 @@ impl<T> Arena<T> {
         ensures refused { OnErr result (self.new ≡ self.old) }
     {
         let number = self.links.ends.len();
+        if number >= KEYS {
+            return Err(NoMemory);
+        }
         let ends = Ends {
             first: None,
             last: None,
         };
         match self.links.ends.push(ends) {
-            Ok(()) => Ok(ListId::new(number)),
+            Ok(()) => Ok(ListId::new(number as u32)),
             Err(_) => Err(NoMemory),
         }
     }
@@ -75,10 +78,7 @@ impl<T> Arena<T> {
         ensures lists { self.new.lists ≡ self.old.lists }
         ensures spare { self.old.spare ≤ self.new.spare }
     {
-        match self.links.nodes.reserve(n as usize) {
-            Ok(()) => Ok(()),
-            Err(_) => Err(NoMemory),
-        }
+        self.links.nodes.reserve(n)
     }
 
     /// The first id of a list. None stands exactly where the list is empty.
@@ -96,7 +96,7 @@ impl<T> Arena<T> {
         ensures next { result ≡ next_of self.now id }
         ensures live { IfSome result (λ next. IsLive self.now next) }
     {
-        Id::of_key(self.links.nodes[id.key()].link.after)
+        Id::of_key(self.links.nodes.get(id.key()).link.after)
     }
 
     /// The list that `id` stands in.
@@ -104,7 +104,7 @@ impl<T> Arena<T> {
         requires { IsLive self.now id }
         ensures { result ≡ home id self.now.lists }
     {
-        ListId::new(self.links.nodes[id.key()].link.list)
+        ListId::new(self.links.nodes.get(id.key()).link.list)
     }
 
     /// The value under `id`.
@@ -112,7 +112,7 @@ impl<T> Arena<T> {
         requires { IsLive self.now id }
         ensures { value_of self.now id ≡ Some result.now }
     {
-        &self.links.nodes[id.key()].value
+        &self.links.nodes.get(id.key()).value
     }
 
     /// The value under `id`, for writing.
@@ -121,7 +121,7 @@ impl<T> Arena<T> {
         ensures* writes_back { sem 𝓛 (lends_value T.row self.entry id result) }
         ensures value { value_of self.old id ≡ Some result.now }
     {
-        let node = &mut self.links.nodes[id.key()];
+        let node = self.links.nodes.get_mut(id.key());
         &mut node.value
     }
 
@@ -135,7 +135,7 @@ impl<T> Arena<T> {
     {
         let before = self.links.ends[list.number()].last;
         let link = Link {
-            list: list.number(),
+            list: list.as_u32(),
             before,
             after: None,
         };
@@ -151,7 +151,7 @@ impl<T> Arena<T> {
         ensures spare { TakesOne self.old self.new }
     {
         let key = at.key();
-        let place = self.links.nodes[key].link;
+        let place = self.links.nodes.get(key).link;
         let link = Link {
             list: place.list,
             before: Some(key),

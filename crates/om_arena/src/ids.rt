@@ -6,7 +6,7 @@ use std::marker::{Model, PhantomData};
 /// A list of an arena, numbered from 0 in the order in which the lists were added.
 #[derive(Clone, Copy, PartialEq, Eq, Debug)]
 pub struct ListId {
-    number: usize,
+    number: u32,
 }
 
 impl Model for ListId {
@@ -20,7 +20,7 @@ impl Model for ListId {
 }
 
 impl ListId {
-    pub(crate) fn new(number: usize) -> ListId
+    pub(crate) fn new(number: u32) -> ListId
         ensures { result ≡ number }
     {
         ListId { number }
@@ -28,6 +28,12 @@ impl ListId {
 
     /// How many lists were added before this one.
     pub fn number(self) -> usize
+        ensures { result ≡ self }
+    {
+        self.number as usize
+    }
+
+    pub(crate) fn as_u32(self) -> u32
         ensures { result ≡ self }
     {
         self.number
@@ -38,7 +44,7 @@ impl ListId {
 /// value; a later insertion may give it again.
 #[derive_where(Clone, Copy, PartialEq, Eq, Debug)]
 pub struct Id<T> {
-    key: usize,
+    key: u32,
     of: PhantomData<T>,
 }
 
@@ -53,7 +59,7 @@ impl<T> Model for Id<T> {
 }
 
 impl<T> Id<T> {
-    pub(crate) fn new(key: usize) -> Id<T>
+    pub(crate) fn new(key: u32) -> Id<T>
         ensures { result ≡ key }
     {
         Id {
@@ -62,13 +68,13 @@ impl<T> Id<T> {
         }
     }
 
-    pub(crate) fn key(self) -> usize
+    pub(crate) fn key(self) -> u32
         ensures { result ≡ self }
     {
         self.key
     }
 
-    pub(crate) fn of_key(key: Option<usize>) -> Option<Id<T>>
+    pub(crate) fn of_key(key: Option<u32>) -> Option<Id<T>>
         ensures { result ≡ key }
     {
         match key {

@@ -9,6 +9,7 @@ mod arena;
 mod causes;
 mod ids;
 mod links;
+mod slots;
 #[cfg(test)]
 mod tests;
 
