@@ -1,9 +1,9 @@
 -- How each change of the slots keeps the count of values and the chain of vacant slots.
-use Rattle.std.proofs.Common.{◌≡◌, ◌≢◌, ◌⊎◌, ℕ, suc, ◌+◌, ◌-◌, ◌^◌, ◌<◌, ◌≤◌, List, [], ◌∷◌, ◌++◌, map, length, get_or, set, Option, Some, None, is_some, IsSome, count_by, cond, slice_get, refl, sym, ap, subst, ◌∙◌, inl, inr, arith, length-set, true≢false}
+use Rattle.std.proofs.Common.{◌≡◌, ◌≢◌, ℕ, ◌+◌, ◌-◌, ◌<◌, List, [], ◌∷◌, ◌++◌, map, length, get_or, set, Option, Some, None, is_some, IsSome, count_by, cond, slice_get, refl, sym, ap, subst, ◌∙◌, arith, length-set, true≢false}
 use Rattle.std.proofs.lemmas.List.{map-set, map_push, length-map, length_push, get_or-map, get_or-set_same, get_or-set_other, get_or_past}
 use Rattle.std.proofs.lemmas.List.Sums.{sum_by-set, sum_by_push}
-use Rattle.std.proofs.lemmas.Option.{slice_get_within, slice_get-get_or, slice_get_read, get_or_from_slice_get}
-use Rattle.om_arena.specs.Keyed.{Keyed, get, Updates}
+use Rattle.std.proofs.lemmas.Option.{slice_get_within, slice_get-get_or, get_or_from_slice_get}
+use Rattle.om_arena.specs.Keyed.{Keyed, key_count, Updates}
 use Rattle.om_arena.specs.Lists.{IsApart, AreApart}
 use Rattle.om_arena.specs.Vacant.{held, AreChained, IsSound}
 use Rattle.om_arena.specs.declared.slots.Slot.{Slot}
@@ -106,7 +106,7 @@ module _ {X : Type 0} where
 
   -- ---- the changes
 
-  pub sound_push : (slots : List (Slot X)) (live : ℕ) (vacant : Option ℕ) (value : X) → IsSound slots live vacant → vacant ≡ None → length slots < 2 ^ 32 → IsSound (slots ++ Occupied value ∷ []) (live + 1) vacant
+  pub sound_push : (slots : List (Slot X)) (live : ℕ) (vacant : Option ℕ) (value : X) → IsSound slots live vacant → vacant ≡ None → length slots < key_count → IsSound (slots ++ Occupied value ∷ []) (live + 1) vacant
   sound_push slots live vacant value s is below =
       let all = full slots live vacant s is in
       let longer = length_push slots (Occupied value) in

@@ -1,11 +1,15 @@
 -- What a contract sees of `Slots`. No public clause cites this module.
-use Rattle.std.specs.Prelude.{◌≡◌, ◌≢◌, ℕ, ◌+◌, ◌≤◌, List, Option, Some, None, is_some, count_by, slice_index_or, slice_set, refl}
+use Rattle.std.specs.Prelude.{◌≡◌, ◌≢◌, ℕ, ◌+◌, ◌-◌, ◌^◌, ◌≤◌, List, Option, Some, None, is_some, count_by, slice_index_or, slice_set, refl}
 use Rattle.std.specs.Coded.{Coded, code_by, coded×, coded_ℕ, coded_list, coded_option}
 
 -- the value or nothing at each key from 0 on, and how many values fit with no memory
 pub record Keyed (X : Type 0) : Type 0 where
   pub slots : List (Option X)
   pub capacity : ℕ
+
+-- how many keys there are: each has 32 bits, and one number of 32 bits is left for no key
+abbrev pub key_count : ℕ
+key_count = 2 ^ 32 - 1
 
 -- stored as the pair of its parts
 abbrev pub keyed_code : {X : Type 0} → Coded X → Coded (Keyed X)

@@ -1,4 +1,5 @@
 pub mod Inserted
+pub mod KeyCode
 pub mod Keyed
 pub mod Lends
 pub mod LendsSlot

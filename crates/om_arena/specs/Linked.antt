@@ -1,5 +1,5 @@
 -- How an `Arena` lays out its lists. No public clause cites this module.
-use Rattle.std.specs.Prelude.{◌≡◌, ◌≢◌, ℕ, zero, suc, ◌<◌, eqb, List, [], ◌∷◌, map, length, Option, Some, None, IsSome, slice_index_or, slice_set, option_map, if◌then◌else◌, Bool, true, false, ⊤}
+use Rattle.std.specs.Prelude.{◌≡◌, ℕ, zero, suc, ◌<◌, eqb, List, [], ◌∷◌, map, length, Option, Some, None, IsSome, slice_index_or, slice_set, option_map, if◌then◌else◌, Bool, true, false}
 use Rattle.std.specs.Map.{lookup, keys_of}
 use Rattle.om_arena.specs.Keyed.{Keyed, get}
 use Rattle.om_arena.specs.Lists.{AreApart}

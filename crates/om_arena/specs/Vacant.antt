@@ -1,5 +1,6 @@
 -- How `Slots` links its vacant slots. No public clause cites this module.
-use Rattle.std.specs.Prelude.{◌≡◌, ℕ, ◌+◌, ◌^◌, ◌≤◌, List, [], ◌∷◌, map, length, Option, Some, None, is_some, count_by, slice_get}
+use Rattle.std.specs.Prelude.{◌≡◌, ℕ, ◌+◌, ◌≤◌, List, [], ◌∷◌, map, length, Option, Some, None, is_some, count_by, slice_get}
+use Rattle.om_arena.specs.Keyed.{key_count}
 use Rattle.om_arena.specs.Lists.{AreApart}
 use Rattle.om_arena.specs.declared.slots.Slot.{Slot}
 use Rattle.om_arena.specs.declared.slots.Slot.TheVariants.{Vacant, Occupied}
@@ -15,11 +16,11 @@ module _ {X : Type 0} where
   AreChained slots first [] = first ≡ None
   AreChained slots first (key ∷ rest) = (first ≡ Some key) × (next : Option ℕ) × (slice_get slots key ≡ Some (Vacant next)) × AreChained slots next rest
 
-  -- `live` counts the values, the chain from `vacant` has every vacant slot, and each key has 32 bits
+  -- `live` counts the values, the chain from `vacant` has every vacant slot, and there are keys enough
   pub record IsSound (slots : List (Slot X)) (live : ℕ) (vacant : Option ℕ) : Type 0 where
     pub counted : live ≡ count_by is_some (map held slots)
     pub keys : List ℕ
     pub total : live + length keys ≡ length slots
     pub apart : AreApart keys
     pub chained : AreChained slots vacant keys
-    pub fits : length slots ≤ 2 ^ 32
+    pub fits : length slots ≤ key_count

@@ -5,12 +5,14 @@ ghost use Rattle.om_arena.specs.Lists.{IsList, IsLive, TakesOne, items, value_of
 
 use crate::causes::NoMemory;
 use crate::ids::{Id, ListId};
+use crate::keys::MaybeKey;
 use crate::links::{Ends, Link, Links, Node};
 use crate::slots::{KEYS, Slots};
 use std::alloc::Global;
 use std::marker::Model;
 
-/// Lists of values, in nodes that are linked both ways.
+/// Lists of values, in nodes that are linked both ways. Beside its value a node takes 20 bytes and what aligns it.
+/// At most 4,294,967,295 values, and as many lists, are ever held.
 #[derive(Drop)]
 pub struct Arena<T> {
     links: Links<T>,
@@ -51,7 +53,7 @@ impl<T> Arena<T> {
         }
     }
 
-    /// Adds an empty list behind the others.
+    /// Adds an empty list behind the others. `NoMemory` is also the answer where no more can be held.
     pub fn add_list(&mut self) -> Result<ListId, NoMemory>
         ensures number { IfOk result (λ list. list ≡ length self.old.lists) }
         ensures added { OnOk result (self.new.lists ≡ self.old.lists ++ [] ∷ []) }
@@ -63,8 +65,8 @@ impl<T> Arena<T> {
             return Err(NoMemory);
         }
         let ends = Ends {
-            first: None,
-            last: None,
+            first: MaybeKey::NONE,
+            last: MaybeKey::NONE,
         };
         match self.links.ends.push(ends) {
             Ok(()) => Ok(ListId::new(number as u32)),
@@ -72,7 +74,8 @@ impl<T> Arena<T> {
         }
     }
 
-    /// Makes room for `n` insertions in all that need no memory.
+    /// Makes room for `n` insertions in all that need no memory. `NoMemory` is also the answer where so many
+    /// values can never be held.
     pub fn reserve(&mut self, n: u64) -> Result<(), NoMemory>
         ensures room { OnOk result (n ≤ self.new.spare) }
         ensures lists { self.new.lists ≡ self.old.lists }
@@ -137,7 +140,7 @@ impl<T> Arena<T> {
         let link = Link {
             list: list.as_u32(),
             before,
-            after: None,
+            after: MaybeKey::NONE,
         };
         Id::new(self.links.insert(link, value))
     }
@@ -152,9 +155,10 @@ impl<T> Arena<T> {
     {
         let key = at.key();
         let place = self.links.nodes.get(key).link;
+        let neighbour = MaybeKey::of(key);
         let link = Link {
             list: place.list,
-            before: Some(key),
+            before: neighbour,
             after: place.after,
         };
         Id::new(self.links.insert(link, value))

@@ -1,6 +1,7 @@
 //! The names of an arena's lists and values.
 ghost use Rattle.std.specs.Prelude.{◌≡◌};
 
+use crate::keys::MaybeKey;
 use std::marker::{Model, PhantomData};
 
 /// A list of an arena, numbered from 0 in the order in which the lists were added.
@@ -74,10 +75,10 @@ impl<T> Id<T> {
         self.key
     }
 
-    pub(crate) fn of_key(key: Option<u32>) -> Option<Id<T>>
+    pub(crate) fn of_key(key: MaybeKey) -> Option<Id<T>>
         ensures { result ≡ key }
     {
-        match key {
+        match key.get() {
             Some(key) => Some(Id::new(key)),
             None => None,
         }

@@ -8,6 +8,7 @@
 mod arena;
 mod causes;
 mod ids;
+mod keys;
 mod links;
 mod slots;
 #[cfg(test)]

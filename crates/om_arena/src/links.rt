@@ -3,14 +3,15 @@ ghost use Rattle.std.specs.Prelude.{◌≡◌, ◌<◌, ◌+◌, [], Some, None,
 ghost use Rattle.om_arena.specs.Keyed.{get, live_count, HasRoomFor, Updates};
 ghost use Rattle.om_arena.specs.Linked.{slots_after, ends_after, slots_before, ends_before, CanWrite};
 
+use crate::keys::MaybeKey;
 use crate::slots::Slots;
 
 // Where a value stands: its list, and the keys of its neighbours there.
 #[derive(Clone, Copy)]
 pub(crate) struct Link {
     pub(crate) list: u32,
-    pub(crate) before: Option<u32>,
-    pub(crate) after: Option<u32>,
+    pub(crate) before: MaybeKey,
+    pub(crate) after: MaybeKey,
 }
 
 // A value with its place.
@@ -23,8 +24,8 @@ pub(crate) struct Node<T> {
 // The keys of the first and the last value of a list; both are absent where it is empty.
 #[derive(Clone, Copy)]
 pub(crate) struct Ends {
-    pub(crate) first: Option<u32>,
-    pub(crate) last: Option<u32>,
+    pub(crate) first: MaybeKey,
+    pub(crate) last: MaybeKey,
 }
 
 // The nodes under their keys, and the ends of each list under its number.
@@ -38,14 +39,14 @@ impl<T> Links<T> {
     ghost use Rattle.om_arena.specs.Inserted.{IsInserted};
 
     // Has `to` come after `at`, or first in the list where `at` is absent.
-    pub(crate) fn set_after(&mut self, list: u32, at: Option<u32>, to: Option<u32>)
+    pub(crate) fn set_after(&mut self, list: u32, at: MaybeKey, to: MaybeKey)
         requires { CanWrite self.old.nodes self.old.ends.items list at }
         ensures slots { self.new.nodes.slots ≡ slots_after self.old.nodes.slots at to }
         ensures ends { self.new.ends.items ≡ ends_after self.old.ends.items list at to }
         ensures capacity { self.new.nodes.capacity ≡ self.old.nodes.capacity }
         ensures count { live_count self.new.nodes ≡ live_count self.old.nodes }
     {
-        match at {
+        match at.get() {
             Some(key) => {
                 let node = self.nodes.get_mut(key);
                 node.link.after = to;
@@ -58,14 +59,14 @@ impl<T> Links<T> {
     }
 
     // Has `to` come before `at`, or last in the list where `at` is absent.
-    pub(crate) fn set_before(&mut self, list: u32, at: Option<u32>, to: Option<u32>)
+    pub(crate) fn set_before(&mut self, list: u32, at: MaybeKey, to: MaybeKey)
         requires { CanWrite self.old.nodes self.old.ends.items list at }
         ensures slots { self.new.nodes.slots ≡ slots_before self.old.nodes.slots at to }
         ensures ends { self.new.ends.items ≡ ends_before self.old.ends.items list at to }
         ensures capacity { self.new.nodes.capacity ≡ self.old.nodes.capacity }
         ensures count { live_count self.new.nodes ≡ live_count self.old.nodes }
     {
-        match at {
+        match at.get() {
             Some(key) => {
                 let node = self.nodes.get_mut(key);
                 node.link.before = to;
@@ -87,9 +88,15 @@ impl<T> Links<T> {
         ensures capacity { self.new.nodes.capacity ≡ self.old.nodes.capacity }
         ensures count { live_count self.new.nodes ≡ live_count self.old.nodes + 1 }
     {
+        let Link {
+            list,
+            before,
+            after,
+        } = link;
         let key = self.nodes.insert(Node { value, link });
-        self.set_after(link.list, link.before, Some(key));
-        self.set_before(link.list, link.after, Some(key));
+        let here = MaybeKey::of(key);
+        self.set_after(list, before, here);
+        self.set_before(list, after, here);
         key
     }
 }

@@ -1,7 +1,7 @@
 //! Values under keys of 32 bits, in one piece of memory.
-ghost use Rattle.std.specs.Prelude.{◌≡◌, ◌+◌, ◌≤◌, [], Some, None, IsSome, OnOk, slice_set};
+ghost use Rattle.std.specs.Prelude.{◌≡◌, ◌+◌, ◌<◌, ◌≤◌, [], Some, None, IsSome, OnOk, slice_set};
 ghost use Rattle.std.specs.Borrow.{Lends, sem};
-ghost use Rattle.om_arena.specs.Keyed.{get, live_count, HasRoomFor, Updates};
+ghost use Rattle.om_arena.specs.Keyed.{key_count, get, live_count, HasRoomFor, Updates};
 ghost use Rattle.om_arena.specs.Vacant.{held};
 
 use crate::causes::NoMemory;
@@ -9,8 +9,8 @@ use std::alloc::Global;
 use std::marker::Model;
 use std::mem;
 
-// How many keys there are.
-pub(crate) const KEYS: usize = 1 << 32;
+// How many keys there are, and how many lists.
+pub(crate) const KEYS: usize = u32::MAX as usize;
 
 // What stands under a key: a value, or none and the key of the next vacant slot.
 #[derive(Drop)]
@@ -30,8 +30,8 @@ pub(crate) struct Slots<X> {
 }
 
 impl<X> Model for Slots<X> {
-    ghost use Rattle.std.specs.Prelude.{map, min, vec_capacity, ◌^◌};
-    ghost use Rattle.om_arena.specs.Keyed.{Keyed, keyed_code};
+    ghost use Rattle.std.specs.Prelude.{map, min, vec_capacity};
+    ghost use Rattle.om_arena.specs.Keyed.{Keyed, keyed_code, key_count};
 
     ghost Value = { Keyed X };
 
@@ -41,7 +41,7 @@ impl<X> Model for Slots<X> {
 
     ghost view = { λ s. record {
       slots = map held s.slots.items;
-      capacity = min (vec_capacity s.slots) (2 ^ 32);
+      capacity = min (vec_capacity s.slots) key_count;
     } };
 
     ghost invariant = { λ s. IsSound s.slots.items s.live s.vacant };
@@ -97,6 +97,7 @@ impl<X> Slots<X> {
     // Stores `value` in the first vacant slot, or in a new one where none is vacant.
     pub(crate) fn insert(&mut self, value: X) -> u32
         requires { HasRoomFor self.old 1 }
+        ensures key { result < key_count }
         ensures was_vacant { get self.old result ≡ None }
         ensures updates { Updates self.old self.new result (Some value) }
         ensures capacity { self.new.capacity ≡ self.old.capacity }
@@ -137,7 +138,8 @@ impl<X> Slots<X> {
     // The value under `key`.
     pub(crate) fn get(&self, key: u32) -> &X
         requires { IsSome (get self.now key) }
-        ensures { get self.now key ≡ Some result.now }
+        ensures key { key < key_count }
+        ensures value { get self.now key ≡ Some result.now }
     {
         match &self.slots[key as usize] {
             Slot::Occupied(value) => value,

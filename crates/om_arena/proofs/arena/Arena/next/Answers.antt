@@ -12,7 +12,7 @@ read g c =
     let ends = c.self.inside.links.ends.items in
     let lists = lists_of nodes ends in
     let live : IsSome (lookup (eqb c.args.id) (get_or lists (home c.args.id lists) [])) = rw (← c.self.view_is) at c.requires in
-    let node : get_or nodes c.args.id None ≡ Some c.get.result.now = ap (λ (n : ℕ). get_or nodes n None) (sym c.key.ensures) ∙ c.get.ensures in
+    let node : get_or nodes c.args.id None ≡ Some c.get.result.now = ap (λ (n : ℕ). get_or nodes n None) (sym c.key.ensures) ∙ c.get.ensures.value in
     c.of_key.ensures ∙ rw (← c.self.view_is) (next_is lists nodes ends c.args.id c.get.result.now (reads lists nodes ends c.args.id c.get.result.now c.self.invariant live node))
 
 pub returns-clause-next : goal.returns-clause-next

@@ -1,7 +1,8 @@
-use Rattle.std.proofs.Common.{◌≡◌, ◌<◌, ◌^◌, Some, None, length, slice_get, sym, ap, refl, ◌∙◌, arith}
+use Rattle.std.proofs.Common.{◌≡◌, ◌<◌, Some, length, slice_get, refl, arith}
 use Rattle.std.proofs.lemmas.List.{map-set, length-map}
 use Rattle.std.proofs.lemmas.Option.{slice_get_read}
 use Rattle.om_arena.specs.declared.slots.Slot.TheVariants.{Vacant, Occupied}
+use Rattle.om_arena.specs.Keyed.{key_count}
 use Rattle.om_arena.specs.Vacant.{held}
 use Rattle.om_arena.proofs.Vacancies.{updates_set, count_set, first_vacant, full, sound_push}
 use Rattle.om_arena.proofs.slots.Slots.insert.Goals as goal
@@ -19,7 +20,7 @@ push_reserved-requires g c =
 pub invariant_of-self : goal.invariant_of-self
 invariant_of-self g c =
     let room = rw (← c.self.view_is) at c.requires in
-    let below : length c.self.inside.slots.items < 2 ^ 32 =
+    let below : length c.self.inside.slots.items < key_count =
     omega (arith, c.self.invariant.counted, full c.self.inside.slots.items c.self.inside.live c.self.inside.vacant c.self.invariant c.in_default.is) in
     rw c.push_reserved.ensures.items (sound_push c.self.inside.slots.items c.self.inside.live c.self.inside.vacant c.args.value c.self.invariant c.in_default.is below)
 
@@ -59,3 +60,13 @@ returns-clause-count g c =
     let f = first_vacant c.self.inside.slots.items c.self.inside.live c.in-Some.key c.self.inside.vacant c.self.invariant c.in-Some.is in
     let counted = count_set c.self.inside.slots.items c.in-Some.key (Vacant f.next) (Occupied c.args.value) f.found in
     rw (← c.self.view_is, c.replace.ensures.after) (omega arith)
+
+pub returns-in_default-clause-key : goal.returns-in_default-clause-key
+returns-in_default-clause-key g c =
+    let room = rw (← c.self.view_is) at c.requires in
+    omega (arith, c.self.invariant.counted, full c.self.inside.slots.items c.self.inside.live c.self.inside.vacant c.self.invariant c.in_default.is)
+
+pub returns-clause-key : goal.returns-clause-key
+returns-clause-key g c =
+    let f = first_vacant c.self.inside.slots.items c.self.inside.live c.in-Some.key c.self.inside.vacant c.self.invariant c.in-Some.is in
+    omega (arith, f.within, c.self.invariant.fits)
