@@ -6,7 +6,6 @@ use Rattle.std.proofs.lemmas.Bool.{true≢false, eq-eqb, ne_eqb, false_from_ne_t
 use Rattle.std.proofs.lemmas.List.{length-set, get_or-set_same, get_or-set_other, length_push}
 use Rattle.om_value.specs.declared.value.Place.{Place}
 use Rattle.om_arena.specs.Lists.{AreApart, home, with_value, without}
-use Rattle.om_arena.proofs.Calls.{get_or-default}
 use Rattle.om_graph.specs.declared.op.Op.{Op}
 use Rattle.om_graph.specs.declared.op.OpKind.{OpKind}
 use Rattle.om_graph.specs.declared.op.Last.{Last}
@@ -25,6 +24,13 @@ use Rattle.om_graph.proofs.GraphReads.{none_from, HaveHomes, LiveBlock, LiveOp, 
 length_map : (f : Row → Row) (rows : List Row) → length (map f rows) ≡ length rows
 length_map f [] = refl
 length_map f (x ∷ rows) = ap (λ (n : ℕ). suc n) (length_map f rows)
+
+-- an empty list behind the others changes no items
+one_more : (lists : List (List (ℕ × Op))) (n : ℕ) → get_or (lists ++ [] ∷ []) n [] ≡ get_or lists n []
+one_more [] zero = refl
+one_more [] (suc n) = refl
+one_more (x ∷ lists) zero = refl
+one_more (x ∷ lists) (suc n) = one_more lists n
 
 past : (lists : List (List (ℕ × Op))) (n : ℕ) → length lists ≤ n → get_or lists n [] ≡ []
 past [] n e = refl
@@ -218,11 +224,11 @@ module _ (counts starts : List ℕ) (roots : List Place) (tables : List ℕ) whe
         Edited (rows ++ r ∷ []) ((kept_from 0 rows ++ (k, n) ∷ []) ∷ []) order (lists ++ [] ∷ []) (block_added (seen_graph counts roots tables rows lists) n r.label r.opening)
     block_put n k r number t is off after =
         let count : n ≡ 0 + length rows = let s = laid.listed in omega (arith, s, number) in
-        let empty : get_or (lists ++ [] ∷ []) n [] ≡ [] = get_or-default lists [] n ∙ past lists n (omega (arith, number)) in
+        let empty : get_or (lists ++ [] ∷ []) n [] ≡ [] = one_more lists n ∙ past lists n (omega (arith, number)) in
         let blocks : blocks_from (lists ++ [] ∷ []) 0 (rows ++ r ∷ []) ≡ blocks_from lists 0 rows ++ record { id = n; label = r.label; opening = r.opening; ops = []; last = Off } ∷ [] =
         blocks_added (lists ++ [] ∷ []) 0 rows n r count
         ∙ (rw (is, off, empty) refl)
-        ∙ ap (λ (bs : List Block). bs ++ record { id = n; label = r.label; opening = r.opening; ops = []; last = Off } ∷ []) (blocks_same (lists ++ [] ∷ []) lists 0 rows (λ m. get_or-default lists [] m)) in
+        ∙ ap (λ (bs : List Block). bs ++ record { id = n; label = r.label; opening = r.opening; ops = []; last = Off } ∷ []) (blocks_same (lists ++ [] ∷ []) lists 0 rows (λ m. one_more lists m)) in
         edited (rows ++ r ∷ []) ((kept_from 0 rows ++ (k, n) ∷ []) ∷ []) order (lists ++ [] ∷ []) (block_added (seen_graph counts roots tables rows lists) n r.label r.opening)
         (seen_as _ _ _ _ _ _ (labels_added rows r) blocks (touched_added rows r t))
         (block_added_held (seen_graph counts roots tables rows lists) n r.label r.opening laid.graph after (block_fresh n number))

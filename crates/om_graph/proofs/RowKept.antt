@@ -4,12 +4,12 @@ use Rattle.std.specs.Prelude.{is_some, map}
 use Rattle.std.specs.Map.{lookup, keys_of}
 use Rattle.std.proofs.lemmas.Bool.{true≢false, eqb-true, eq-eqb, ne_eqb}
 use Rattle.om_arena.specs.Lists.{IsApart, AreApart, without, first_id, id_after, home}
-use Rattle.om_arena.proofs.Orders.{lookup-absent}
 use Rattle.om_graph.specs.declared.op.Op.{Op}
 use Rattle.om_graph.specs.declared.parts.Row.{Row}
 use Rattle.om_graph.specs.View.{first_block_id, block_id_after}
 use Rattle.om_graph.specs.Laid.{shown, kept_block, blocks_from, kept_item, kept_from, cleared_row}
 use Rattle.om_graph.proofs.RowBlocks.{IsAt}
+use Rattle.om_graph.proofs.RowNodes.{absent_value}
 
 pub kept_same : (n : ℕ) (rows : List Row) (j : ℕ) (r r' : Row) → IsAt rows j r → r'.kept ≡ r.kept → kept_from n (set rows j r') ≡ kept_from n rows
 kept_same n [] j r r' at same = absurd at
@@ -57,7 +57,7 @@ kept_lookup n (x ∷ rows) i (suc j) r k e at is apart =
       where
         by_id : (v : Bool) → eqb k h ≡ v → cond v (Some n) (lookup (eqb k) (kept_from (suc n) rows)) ≡ Some i
         by_id true t =
-            let absent = lookup-absent (kept_from (suc n) rows) k (subst (λ (y : ℕ). IsApart y (keys_of (kept_from (suc n) rows))) (sym (eqb-true k h t)) a.0) in
+            let absent = absent_value (kept_from (suc n) rows) k (subst (λ (y : ℕ). IsApart y (keys_of (kept_from (suc n) rows))) (sym (eqb-true k h t)) a.0) in
             absurd (true≢false (ap is_some (sym f ∙ absent)))
         by_id false t = f
 
@@ -67,7 +67,7 @@ differs n rows k h i a found = ne_eqb k h other
   where
     other : k ≡ h → ⊥
     other e =
-        let absent = lookup-absent (kept_from n rows) k (subst (λ (y : ℕ). IsApart y (keys_of (kept_from n rows))) (sym e) a) in
+        let absent = absent_value (kept_from n rows) k (subst (λ (y : ℕ). IsApart y (keys_of (kept_from n rows))) (sym e) a) in
         true≢false (ap is_some (sym found ∙ absent))
 
 -- a row that is no longer kept

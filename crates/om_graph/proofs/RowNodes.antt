@@ -5,7 +5,6 @@ use Rattle.std.specs.Map.{lookup, keys_of}
 use Rattle.std.proofs.lemmas.Bool.{true≢false, eqb-true, eqb-false, eq-eqb, ne_eqb}
 use Rattle.om_arena.specs.Lists.{IsApart, AreApart, with_value, without}
 use Rattle.om_arena.specs.Lists as lists
-use Rattle.om_arena.proofs.Orders.{lookup-absent, with_value-absent}
 use Rattle.om_graph.specs.declared.op.Op.{Op}
 use Rattle.om_graph.specs.declared.op.OpKind.{OpKind}
 use Rattle.om_graph.specs.View.{Node, is_node, first_id, id_after, kind_set}
@@ -14,6 +13,15 @@ use Rattle.om_graph.specs.Laid.{nodes_of}
 pub eqb_turn : (a b : ℕ) (v : Bool) → eqb a b ≡ v → eqb b a ≡ v
 eqb_turn a b true e = eq-eqb b a (sym (eqb-true a b e))
 eqb_turn a b false e = ne_eqb b a (λ h. eqb-false a b e (sym h))
+
+-- an id apart from those of some items
+pub absent_value : {T : Type 0} (items : List (ℕ × T)) (o : ℕ) → IsApart o (keys_of items) → lookup (eqb o) items ≡ None
+absent_value [] o apart = refl
+absent_value (x ∷ items) o apart = let t = ne_eqb o x.0 apart.0 in let i = absent_value items o apart.1 in rw t i
+
+absent_write : (items : List (ℕ × Op)) (o : ℕ) (op : Op) → IsApart o (keys_of items) → with_value o op items ≡ items
+absent_write [] o op apart = refl
+absent_write (x ∷ items) o op apart = let t = ne_eqb o x.0 apart.0 in let i = absent_write items o op apart.1 in rw (t, i) refl
 
 abbrev pub node : ℕ → Op → Node
 node o op = record { id = o; op = op }
@@ -104,10 +112,10 @@ kind_one o kind (x ∷ items) op apart e = by_id (eqb o x.0) refl e (kind_one o 
         map (kind_set o kind) (nodes_of (x ∷ items)) ≡ nodes_of (cond v (x.0, record op { kind = kind }) x ∷ with_value o (record op { kind = kind }) items)
     by_id true e q i =
         let t = eqb_turn o x.0 true e in
-        let none = lookup-absent items o (absent (eqb-true o x.0 e)) in
+        let none = absent_value items o (absent (eqb-true o x.0 e)) in
         let same = value q in
         let a = kind_none o kind items none in
-        let b = with_value-absent items o (record op { kind = kind }) (absent (eqb-true o x.0 e)) in
+        let b = absent_write items o (record op { kind = kind }) (absent (eqb-true o x.0 e)) in
         rw (t, a, b) (ap (λ (w : Op). node x.0 (record w { kind = kind }) ∷ nodes_of items) same)
     by_id false e q i =
         let t = eqb_turn o x.0 false e in
@@ -121,7 +129,7 @@ delete_one o [] apart = refl
 delete_one o (x ∷ items) apart = by_id (eqb o x.0) refl (delete_one o items apart.1)
   where
     away : o ≡ x.0 → lookup (eqb o) items ≡ None
-    away e = lookup-absent items o (subst (λ (k : ℕ). IsApart k (keys_of items)) (sym e) apart.0)
+    away e = absent_value items o (subst (λ (k : ℕ). IsApart k (keys_of items)) (sym e) apart.0)
 
     by_id :
         (v : Bool) → eqb o x.0 ≡ v → filter (λ n. not (is_node o n)) (nodes_of items) ≡ nodes_of (without o items) →
