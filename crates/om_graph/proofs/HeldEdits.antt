@@ -12,17 +12,17 @@ use Rattle.om_graph.proofs.Labels.{lt_cases, has_append, append_left, append_rig
 
 -- ---- order
 
-lt_in : (p q : Place) → p.obj ≡ q.obj → p.off < q.off → place_lt p q ≡ true
+pub lt_in : (p q : Place) → p.obj ≡ q.obj → p.off < q.off → place_lt p q ≡ true
 lt_in p q o l = rw (eq-eqb p.obj q.obj o) (lt-ltb p.off q.off l)
 
-lt_out : (p q : Place) → p.obj < q.obj → place_lt p q ≡ true
+pub lt_out : (p q : Place) → p.obj < q.obj → place_lt p q ≡ true
 lt_out p q l = by_obj (p.obj == q.obj) refl
   where
     by_obj : (b : Bool) → (p.obj == q.obj) ≡ b → cond b (nat_lt p.off q.off) (nat_lt p.obj q.obj) ≡ true
     by_obj true e = let o = eqb-true p.obj q.obj e in absurd (omega (arith, o, l))
     by_obj false e = lt-ltb p.obj q.obj l
 
-lt_trans : (p q r : Place) → place_lt p q ≡ true → place_lt q r ≡ true → place_lt p r ≡ true
+pub lt_trans : (p q r : Place) → place_lt p q ≡ true → place_lt q r ≡ true → place_lt p r ≡ true
 lt_trans p q r a b = by_cases (lt_cases p q a) (lt_cases q r b)
   where
     by_cases : ((p.obj ≡ q.obj) × (p.off < q.off)) ⊎ (p.obj < q.obj) → ((q.obj ≡ r.obj) × (q.off < r.off)) ⊎ (q.obj < r.obj) → place_lt p r ≡ true
@@ -32,7 +32,7 @@ lt_trans p q r a b = by_cases (lt_cases p q a) (lt_cases q r b)
     by_cases (inr x) (inr y) = lt_out p r (omega (arith, x, y))
 
 -- one of two different places is before the other
-lt_other : (p q : Place) → place_eq p q ≡ false → place_lt p q ≡ false → place_lt q p ≡ true
+pub lt_other : (p q : Place) → place_eq p q ≡ false → place_lt p q ≡ false → place_lt q p ≡ true
 lt_other p q e l = by_obj (cases_lt p.obj q.obj)
   where
     by_off : p.obj ≡ q.obj → (p.off < q.off) ⊎ (q.off ≤ p.off) → place_lt q p ≡ true

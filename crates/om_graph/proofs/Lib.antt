@@ -27,3 +27,12 @@ pub mod LiftedKept
 pub mod HeldEdits
 pub mod Ends
 pub mod LiftedSteps
+pub mod RowBlocks
+pub mod RowNodes
+pub mod RowKept
+pub mod RowLabels
+pub mod RowSearch
+pub mod GraphReads
+pub mod GraphEdits
+pub mod StartSums
+pub mod TestLabels

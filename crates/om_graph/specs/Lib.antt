@@ -1,5 +1,6 @@
 pub mod View
 pub mod Held
+pub mod Laid
 pub mod Run
 pub mod LeftIn
 pub mod Matching

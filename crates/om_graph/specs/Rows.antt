@@ -1,5 +1,5 @@
 -- Worked graphs: a call of a procedure with an opening pair, and the same call past the pair; and a program lifted.
-use Rattle.std.specs.Prelude.{◌≡◌, ℕ, pos, negsuc, true, false, [], ◌∷◌, map, Some, None, refl}
+use Rattle.std.specs.Prelude.{◌≡◌, ℕ, pos, negsuc, true, false, List, [], ◌∷◌, map, Some, None, refl}
 use Rattle.om_isa.specs.declared.instr.MemOp.TheVariants.{Lda, Ldah, Ldq}
 use Rattle.om_isa.specs.declared.instr.JumpOp.TheVariants.{Jsr, Ret}
 use Rattle.om_isa.specs.declared.instr.BrOp.TheVariants.{Bsr}
@@ -17,7 +17,9 @@ use Rattle.om_prog.specs.Act.{Word}
 use Rattle.om_prog.specs.Facts.{Any, Table, Unknown, fact_behind}
 use Rattle.om_graph.specs.declared.op.OpKind.TheVariants.{Plain, Lit, GpHi, GpLo}
 use Rattle.om_graph.specs.declared.op.Last.TheVariants.{Fall, Off, Br, Call, CallBy, JumpBy}
+use Rattle.om_graph.specs.declared.parts.Row.{Row}
 use Rattle.om_graph.specs.View.{GraphView, last_set, deleted, dropped, replaced, table_set, cleared, made, labelled, next_op_of, op_of, next_touched_of}
+use Rattle.om_graph.specs.Laid.{seen_graph, kept_from}
 use Rattle.om_graph.specs.Run.{graph_script}
 use Rattle.om_graph.specs.Form.{label_after}
 use Rattle.om_graph.specs.LeftIn.{passes, left}
@@ -237,3 +239,22 @@ row_two_pairs = refl
 
 pub row_second_pair : map (λ s. s.opening) (lifted_shapes two_pairs) ≡ true ∷ false ∷ []
 row_second_pair = refl
+
+-- rows and lists of ops as a graph keeps them, with the second block dropped: its ops are out of sight
+abbrev pub calling_rows : List Row
+calling_rows =
+    record { label = at 0; opening = false; touched = false; last = Call (at 0) Bsr 26 (at 16); kept = Some 4 }
+    ∷ record { label = at 4; opening = false; touched = true; last = Fall; kept = None }
+    ∷ record { label = at 16; opening = true; touched = false; last = Fall; kept = Some 6 }
+    ∷ record { label = at 24; opening = false; touched = false; last = JumpBy (at 24) (Jumps Ret 31 26 0); kept = Some 5 } ∷ []
+
+pub row_seen :
+    seen_graph (7 ∷ []) (at 0 ∷ []) (0 ∷ []) calling_rows
+    ([]
+    ∷ ((0, record { place = at 4; kind = Plain Callsys }) ∷ [])
+    ∷ ((3, record { place = at 16; kind = GpHi 29 27 (at 0) }) ∷ (4, record { place = at 20; kind = GpLo 29 29 (at 16) }) ∷ []) ∷ [] ∷ [])
+    ≡ dropped calling 1
+row_seen = refl
+
+pub row_numbers : kept_from 0 calling_rows ≡ (4, 0) ∷ (6, 2) ∷ (5, 3) ∷ []
+row_numbers = refl

@@ -2,9 +2,17 @@
 //! pass to keep a program's meaning.
 #![tactic(auto)]
 
+mod graph;
+mod ids;
 mod laws;
 mod op;
+mod parts;
+mod starts;
+#[cfg(test)]
+mod tests;
 
+pub use graph::Graph;
+pub use ids::{BlockId, OpId};
 pub use laws::{
     checked_facts_hold, checked_masks_hold, graphs_of_programs, lift_keeps_meaning, passes_compose,
     runs_stay_in_kept_set, some_step_is_left_in,

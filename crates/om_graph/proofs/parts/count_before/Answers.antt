@@ -1,0 +1,16 @@
+use Rattle.std.proofs.Common.{arith, rules}
+use Rattle.std.proofs.lemmas.List.Sorted.{IsPartitionPoint-from_clause}
+use Rattle.om_graph.specs.View.{place_lt}
+use Rattle.om_graph.specs.Laid.{no_row}
+use Rattle.om_graph.proofs.RowSearch.{parted_before}
+use Rattle.om_graph.proofs.parts.count_before.Goals as goal
+
+pub returns-clause-below : goal.returns-clause-below
+returns-clause-below c =
+    let point = IsPartitionPoint-from_clause (λ r. place_lt r.label c.args.p) _ _ c.partition_point.ensures.partitioned (parted_before c.args.p c.args.rows.now c.requires) (λ a r q k. search rules) in
+    λ k h. point.0 k no_row (omega arith) h
+
+pub returns-clause-above : goal.returns-clause-above
+returns-clause-above c =
+    let point = IsPartitionPoint-from_clause (λ r. place_lt r.label c.args.p) _ _ c.partition_point.ensures.partitioned (parted_before c.args.p c.args.rows.now c.requires) (λ a r q k. search rules) in
+    λ k h l. point.1 k no_row h l
