@@ -16,6 +16,7 @@ pub mod Laws
 pub mod Landing
 pub mod Lifted
 pub mod Uses
+pub mod TermRows
 pub mod OfProgram
 pub mod Fits
 pub mod Rows
