@@ -25,7 +25,7 @@ behind w = by_case _ refl
     by_case true e = let v = (is_from (next_place w.at) w e).1 in absurd (omega (arith, v))
 
 -- no word before a label is from it
-before_not : (l : Place) (w : Word) → (w.at.obj ≡ l.obj → w.at.off + 4 ≤ l.off) → from_place l w ≡ false
+pub before_not : (l : Place) (w : Word) → (w.at.obj ≡ l.obj → w.at.off + 4 ≤ l.off) → from_place l w ≡ false
 before_not l w h = by_case _ refl
   where
     by_case : (b : Bool) → from_place l w ≡ b → from_place l w ≡ false

@@ -15,6 +15,8 @@ pub mod Kept
 pub mod Comes
 pub mod Itself
 pub mod OnWalks
+pub mod Outs
+pub mod Behind
 pub mod Whole
 pub mod LiftedCases
 pub mod LiftedWords

@@ -47,12 +47,12 @@ not_there ws x w a h = is_false _ (λ e. never ws (same_place x.at w.at e) a h)
         omega (arith, f, b)
     never (y ∷ ws) e a (inr h) = never ws e a.1 h
 
-own_order : (bs : List Block) (b : Block) → Placed bs → Has bs b → Ordered (block_words b)
+pub own_order : (bs : List Block) (b : Block) → Placed bs → Has bs b → Ordered (block_words b)
 own_order [] b p h = absurd h
 own_order (x ∷ bs) b p (inl e) = subst (λ (y : Block). Ordered (block_words y)) e p.1
 own_order (x ∷ bs) b p (inr h) = own_order bs b p.4 h
 
-same_block :
+pub same_block :
     (bs : List Block) (b d : Block) (w : Word) → Placed bs → Has bs b → Has bs d → Has (block_words b) w → Has (block_words d) w → b ≡ d
 same_block [] b d w p h i m n = absurd h
 same_block (x ∷ bs) b d w p (inl h) (inl i) m n = sym h ∙ i
@@ -72,7 +72,7 @@ before_split (x ∷ bf) ws w o h =
     before_split bf (x ∷ ws) w o (inr h) ∙ ap (λ (b : Bool). cond b bf (before_of (x ∷ bf) ws w.at)) (not_there ws x w a.0 h)
 
 -- the same word has the same words before it
-same_before :
+pub same_before :
     (l bf bg ws xs : List Word) (w : Word) → Ordered l → rev_onto bf (w ∷ ws) ≡ l → rev_onto bg (w ∷ xs) ≡ l → bf ≡ bg
 same_before l bf bg ws xs w o e f =
     sym (at_word bf ws) ∙ sym (before_split bf (w ∷ ws) w (subst (λ (k : List Word). Ordered k) (sym e) o) (inl refl))
@@ -289,7 +289,7 @@ module _ (g : GraphView) (within : InLabels g) (placed : Placed g.blocks) (form 
 
   -- ---- masks
 
-  may_low : (r : ℕ) (p : Place) → MayRead g r p → r < 31
+  pub may_low : (r : ℕ) (p : Place) → MayRead g r p → r < 31
   may_low r p (reads q w e l m) = l
   may_low r p (goes q w x e n t m) = may_low r x m
 

@@ -12,8 +12,9 @@ use Rattle.om_graph.specs.Run.{block_words, rev_onto, graph_script}
 use Rattle.om_graph.specs.Form.{InForm, InPlace}
 use Rattle.om_graph.specs.LeftIn.{left_in, Keeps}
 use Rattle.om_graph.specs.Kept.{KeptInBlocks, IsKeptLabel, IsKeptLanding, Comes}
-use Rattle.om_graph.specs.Checks.{GpChecked, MaskChecked, AreOuts, told_at}
-use Rattle.om_graph.specs.Walks.{MayRead, IsGpFact}
+use Rattle.om_graph.specs.Checks.{GpChecked, MaskChecked, AreOuts, live_in, told_at}
+use Rattle.om_graph.specs.Outs.{outs_of}
+use Rattle.om_graph.specs.Walks.{WalksTo, MayRead, IsGpFact}
 use Rattle.om_graph.specs.Pairs.{PairsApart}
 use Rattle.om_graph.specs.Whole.{IsWhole}
 use Rattle.om_graph.specs.Lifted.{IsLifted}
@@ -70,11 +71,19 @@ pub record CheckedFactsHold : Type 0 where
       (told_at (graph_script p g) facts g.blocks (sym_run (graph_script p g) input n).place)
       (sym_run (graph_script p g) input n)
 
--- masks that a check passes have each register that some walk may read from a block's start on
+-- masks that a check passes have each register that some walk may read from a block's start on, and tell with what may
+-- be read from its end on which registers some walk may read behind each of its words
 pub record CheckedMasksHold : Type 0 where
+  -- what may be read from the ends of blocks on can be computed
+  pub outs : (g : GraphView) (masks : Place → ℕ → Bool) → IsGraph g → AreOuts masks (outs_of g masks) g
   pub walks :
+      (g : GraphView) (masks : Place → ℕ → Bool) → IsGraph g → InForm g → InPlace g → MaskChecked masks g →
+      (b : Block) (r : ℕ) → Has g.blocks b → MayRead g r b.label → masks b.label r ≡ true
+  pub inside :
       (g : GraphView) (masks outs : Place → ℕ → Bool) → IsGraph g → InForm g → InPlace g → MaskChecked masks g →
-      AreOuts masks outs g → (b : Block) (r : ℕ) → Has g.blocks b → MayRead g r b.label → masks b.label r ≡ true
+      AreOuts masks outs g → (b : Block) (bf : List Word) (w : Word) (ws : List Word) (q : Place) (r : ℕ) →
+      Has g.blocks b → rev_onto bf (w ∷ ws) ≡ block_words b → WalksTo g w q → MayRead g r q →
+      live_in ws (outs b.label) r ≡ true
 
 -- ---- programs and their graphs
 

@@ -17,6 +17,7 @@ pub mod Landing
 pub mod Lifted
 pub mod Uses
 pub mod TermRows
+pub mod Outs
 pub mod OfProgram
 pub mod Fits
 pub mod Rows

@@ -23,7 +23,7 @@ pub fn checked_facts_hold()
     ensures { CheckedFactsHold }
 {}
 
-/// Masks that a check passes have each register that may be read.
+/// Masks that a check passes have each register that may be read, and tell which may be read behind each word.
 pub fn checked_masks_hold()
     ensures { CheckedMasksHold }
 {}
