@@ -29,3 +29,4 @@ pub mod LiftedKept
 pub mod HeldEdits
 pub mod Ends
 pub mod LiftedSteps
+pub mod TermRows

@@ -16,7 +16,6 @@ pub mod Laws
 pub mod Landing
 pub mod Lifted
 pub mod Uses
-pub mod TermRows
 pub mod Outs
 pub mod OfProgram
 pub mod Fits

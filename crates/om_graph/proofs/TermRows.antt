@@ -1,5 +1,7 @@
 -- Worked rows of what passes rest on: pairs that calls go past, uses, known calls, bounds, facts and kept sets.
-use Rattle.std.specs.Prelude.{◌≡◌, pos, negsuc, true, false, [], ◌∷◌, map, refl}
+use Rattle.std.proofs.Common.{◌≡◌, ◌⊎◌, inl, inr, ℕ, pos, negsuc, true, false, [], ◌∷◌, refl, sym, ◌∙◌, ◌==◌}
+use Rattle.std.proofs.lemmas.Bool.{true≢false, eq-eqb}
+use Rattle.std.specs.Prelude.{map}
 use Rattle.om_isa.specs.declared.instr.MemOp.TheVariants.{Lda, Ldah, Ldq, Stq}
 use Rattle.om_isa.specs.declared.instr.JumpOp.TheVariants.{Ret}
 use Rattle.om_isa.specs.declared.instr.BrOp.TheVariants.{Br as Straight, Bsr, If}
@@ -9,12 +11,15 @@ use Rattle.om_value.specs.declared.value.Target.TheVariants as target
 use Rattle.om_prog.specs.declared.item.Role.TheVariants as role
 use Rattle.om_prog.specs.View.{ProgramView}
 use Rattle.om_prog.specs.Rows.{plain, with_role, program_of}
+use Rattle.om_prog.specs.Act as act
+use Rattle.om_prog.specs.Act.{Word}
 use Rattle.om_graph.specs.declared.op.OpKind.TheVariants.{Plain, Lit, GpHi, GpLo}
 use Rattle.om_graph.specs.declared.op.Last.TheVariants.{Fall, Br, Cond, Call, JumpBy}
 use Rattle.om_graph.specs.View.{GraphView, deleted, dropped, shape_of}
 use Rattle.om_graph.specs.LeftIn.{passes, is_kept}
 use Rattle.om_graph.specs.Lifted.{lifted_shapes}
-use Rattle.om_graph.specs.Rows.{at}
+use Rattle.om_graph.specs.Uses.{NoneWrites, Unwritten}
+use Rattle.om_graph.specs.Rows.{at, writes_29}
 
 -- ---- a pair of which each half has a block of its own
 
@@ -111,3 +116,22 @@ row_half_kept = refl
 
 pub row_half_gone : passes half_gone (at 0) (at 32) ≡ false
 row_half_gone = refl
+
+-- ---- registers that no word writes
+
+-- lda r31,0(r30)
+abbrev pub writes_none : Word
+writes_none = record { at = at 0; act = act.Plain (Mem Lda 31 30 (pos 0)) }
+
+pub row_unwritten : Unwritten 31 (writes_none ∷ [])
+row_unwritten = inl refl
+
+pub row_written_31 : NoneWrites 31 (writes_none ∷ []) → ⊥
+row_written_31 f = f writes_none (inl refl) (inl refl)
+
+pub row_written : Unwritten 29 (writes_29 ∷ []) → ⊥
+row_written u = not_31 u (λ f. f writes_29 (inl refl) (inl refl)) refl
+  where
+    not_31 : {P : Type 0} {r : ℕ} → (r ≡ 31) ⊎ P → (P → ⊥) → (r == 31) ≡ false → ⊥
+    not_31 {r = r} (inl e) f n = true≢false (sym (eq-eqb r 31 e) ∙ n)
+    not_31 (inr p) f n = f p
