@@ -17,7 +17,7 @@ use Rattle.om_graph.proofs.Comes.{ordered_split}
 use Rattle.om_graph.proofs.Placed.{BeforeBlocks, Placed, IsLabel}
 use Rattle.om_graph.proofs.Places.{InLabels, end_none, jumps_last}
 use Rattle.om_graph.proofs.Blocks.{value_at, Edges, Laws, FoundAt, found_at, falls, come, land}
-use Rattle.om_graph.proofs.GpFacts.{fact_at, allows_then}
+use Rattle.om_graph.proofs.GpFacts.{fact_at, allows_then, allows_changed}
 use Rattle.om_graph.proofs.Masks.{live_at, among_true, has_among}
 use Rattle.om_value.specs.Same.{place_eq}
 use Rattle.om_graph.proofs.GpFacts as gp
@@ -133,19 +133,6 @@ module _ (g : GraphView) (within : InLabels g) (placed : Placed g.blocks) (form 
       by_case : (b : Bool) → Told (cond b (set_fact c w w.act) Unknown)
       by_case true = set_told c w w.act
       by_case false = tt
-
-  allows_changed : (c : Script) (w : Word) (f h : Fact) → Allows f h → Allows (changed c w f) (changed c w h)
-  allows_changed c w Any h a = tt
-  allows_changed c w (Table x) (Table y) a = subst (λ (k : Fact). Allows (changed c w (Table x)) (changed c w k)) a (gp.allows_same (changed c w (Table x)))
-  allows_changed c w (Table x) Any a = cc
-  allows_changed c w (Table x) Unknown a = by_case (has (act_writes w.act) 29)
-    where
-      by_case : (b : Bool) → Allows (cond b (set_fact c w w.act) (Table x)) (cond b (set_fact c w w.act) Unknown)
-      by_case true = gp.allows_same (set_fact c w w.act)
-      by_case false = tt
-  allows_changed c w Unknown Unknown a = gp.allows_same (changed c w Unknown)
-  allows_changed c w Unknown Any a = cc
-  allows_changed c w Unknown (Table y) a = cc
 
   module _ (c : Script) (facts : Place → Fact) (checked : GpChecked c facts g) where
     abbrev at_place : Place → Fact

@@ -5,14 +5,14 @@ use Rattle.om_prog.specs.View.{ProgramView}
 use Rattle.om_prog.specs.Act.{Word}
 use Rattle.om_prog.specs.Runs.{sym_run}
 use Rattle.om_prog.specs.Within.{StateWithin}
-use Rattle.om_prog.specs.Facts.{Holds, Fact, fact_behind, IsFact}
+use Rattle.om_prog.specs.Facts.{Holds, Fact, Allows, fact_behind, IsFact}
 use Rattle.om_graph.specs.View.{Block, GraphView, Has}
 use Rattle.om_graph.specs.Held.{IsGraph}
 use Rattle.om_graph.specs.Run.{block_words, rev_onto, graph_script}
 use Rattle.om_graph.specs.Form.{InForm, InPlace}
 use Rattle.om_graph.specs.LeftIn.{left_in, Keeps}
 use Rattle.om_graph.specs.Kept.{KeptInBlocks, IsKeptLabel, IsKeptLanding, Comes}
-use Rattle.om_graph.specs.Checks.{GpChecked, MaskChecked, AreOuts, live_in, told_at}
+use Rattle.om_graph.specs.Checks.{GpChecked, ReachesBlock, MaskChecked, AreOuts, live_in, told_at}
 use Rattle.om_graph.specs.Outs.{outs_of}
 use Rattle.om_graph.specs.Walks.{WalksTo, MayRead, IsGpFact}
 use Rattle.om_graph.specs.Pairs.{PairsApart}
@@ -55,9 +55,12 @@ pub record RunsStayInKeptSet : Type 0 where
 
 -- ---- what checks say
 
--- a fact of a block that a check passes is the GP fact in front of the block's words, and r29 holds what it says
--- wherever a run comes
+-- a fact of a block that a check passes is allowed by what each walk over blocks leaves there and is the GP fact in front
+-- of the block's words, and r29 holds what it says wherever a run comes
 pub record CheckedFactsHold : Type 0 where
+  pub blocks :
+      (p : ProgramView) (g : GraphView) (facts : Place → Fact) → GpChecked (graph_script p g) facts g → (b : Block) (f : Fact) →
+      ReachesBlock (graph_script p g) g b f → Allows f (facts b.label)
   pub walks :
       (p : ProgramView) (g : GraphView) (facts : Place → Fact) → IsGraph g → InForm g → InPlace g →
       GpChecked (graph_script p g) facts g →
