@@ -30,3 +30,6 @@ pub mod HeldEdits
 pub mod Ends
 pub mod LiftedSteps
 pub mod TermRows
+pub mod UseRows
+pub mod BoundRows
+pub mod KeptRows
