@@ -20,12 +20,12 @@ use Rattle.om_graph.proofs.OnWalks.{walk_flow, may_live, may_low, own_order, sam
 
 -- ---- a word is found at its own place
 
-after_has : (ws : List Word) (x w : Word) → After x ws → Has ws w → w.at.obj ≡ x.at.obj → x.at.off + 4 ≤ w.at.off
+pub after_has : (ws : List Word) (x w : Word) → After x ws → Has ws w → w.at.obj ≡ x.at.obj → x.at.off + 4 ≤ w.at.off
 after_has [] x w a h o = absurd h
 after_has (y ∷ ws) x w a (inl e) o = subst (λ (z : Word). x.at.off + 4 ≤ z.at.off) e (a.0 (ap (λ (z : Word). z.at.obj) e ∙ o))
 after_has (y ∷ ws) x w a (inr h) o = after_has ws x w a.1 h o
 
-own_found : (ws : List Word) (w : Word) → Ordered ws → Has ws w → next_word ws w.at ≡ Some w
+pub own_found : (ws : List Word) (w : Word) → Ordered ws → Has ws w → next_word ws w.at ≡ Some w
 own_found [] w o h = absurd h
 own_found (x ∷ ws) w o (inl e) =
     let t : from_place w.at x ≡ true = subst (λ (y : Word). from_place y.at x ≡ true) e (from_true x.at x refl (omega arith)) in

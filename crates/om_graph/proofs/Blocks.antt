@@ -146,7 +146,7 @@ before_split : (l : Place) (bf ws : List Word) → BeforeLabel l (rev_onto bf ws
 before_split l [] ws h = h
 before_split l (x ∷ bf) ws h = (before_split l bf (x ∷ ws) h).1
 
-from_split : (l : Place) (bf ws : List Word) → FromLabel l (rev_onto bf ws) → FromLabel l ws
+pub from_split : (l : Place) (bf ws : List Word) → FromLabel l (rev_onto bf ws) → FromLabel l ws
 from_split l [] ws h = h
 from_split l (x ∷ bf) ws h = (from_split l bf (x ∷ ws) h).1
 

@@ -37,12 +37,12 @@ ordered_append [] ys o p f = p
 ordered_append (x ∷ xs) ys o p f =
     (after_each x xs ys o.0 (λ y h. f x y (inl refl) h), ordered_append xs ys o.1 p (λ z y h i. f z y (inr h) i))
 
-from_has : (l : Place) (ws : List Word) (w : Word) → FromLabel l ws → Has ws w → (w.at.obj ≡ l.obj) × (l.off ≤ w.at.off)
+pub from_has : (l : Place) (ws : List Word) (w : Word) → FromLabel l ws → Has ws w → (w.at.obj ≡ l.obj) × (l.off ≤ w.at.off)
 from_has l [] w f h = absurd h
 from_has l (x ∷ ws) w f (inl e) = subst (λ (y : Word). (y.at.obj ≡ l.obj) × (l.off ≤ y.at.off)) e f.0
 from_has l (x ∷ ws) w f (inr h) = from_has l ws w f.1 h
 
-before_has : (l : Place) (ws : List Word) (w : Word) → BeforeLabel l ws → Has ws w → w.at.obj ≡ l.obj → w.at.off + 4 ≤ l.off
+pub before_has : (l : Place) (ws : List Word) (w : Word) → BeforeLabel l ws → Has ws w → w.at.obj ≡ l.obj → w.at.off + 4 ≤ l.off
 before_has l [] w f h = absurd h
 before_has l (x ∷ ws) w f (inl e) = subst (λ (y : Word). y.at.obj ≡ l.obj → y.at.off + 4 ≤ l.off) e f.0
 before_has l (x ∷ ws) w f (inr h) = before_has l ws w f.1 h

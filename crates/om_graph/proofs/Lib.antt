@@ -17,6 +17,8 @@ pub mod Itself
 pub mod OnWalks
 pub mod Outs
 pub mod Behind
+pub mod Reached
+pub mod Read
 pub mod Whole
 pub mod LiftedCases
 pub mod LiftedWords

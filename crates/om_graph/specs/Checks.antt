@@ -88,6 +88,11 @@ pub record AreOuts (masks outs : Place → ℕ → Bool) (g : GraphView) : Type 
       (b : Block) (r : ℕ) → Has g.blocks b → r < 31 → outs b.label r ≡ true →
       (n : Block) × Enters g b n × (masks n.label r ≡ true)
 
+-- a walk over blocks from a kept block on reads a register before it writes it
+pub data ReadsBlock (g : GraphView) (r : ℕ) : Block → Type 0 where
+  reads_in : (b : Block) → Has g.blocks b → reads_first (block_words b) r ≡ true → ReadsBlock g r b
+  reads_next : (b n : Block) → Enters g b n → written_in (block_words b) r ≡ false → ReadsBlock g r n → ReadsBlock g r b
+
 -- the registers that may be read from some words on, where out may be read behind them
 abbrev pub live_in : List Word → (ℕ → Bool) → ℕ → Bool
 live_in [] out r = out r
