@@ -23,6 +23,10 @@ pub mod Whole
 pub mod LiftedCases
 pub mod LiftedWords
 pub mod LiftedRun
+pub mod TermRows
+pub mod UseRows
+pub mod BoundRows
+pub mod KeptRows
 pub mod Pieces
 pub mod OfProgram
 pub mod Forms
@@ -31,7 +35,3 @@ pub mod LiftedKept
 pub mod HeldEdits
 pub mod Ends
 pub mod LiftedSteps
-pub mod TermRows
-pub mod UseRows
-pub mod BoundRows
-pub mod KeptRows
