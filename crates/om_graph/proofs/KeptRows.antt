@@ -72,7 +72,7 @@ row_outs_return = refl
 
 -- ---- kept sets
 
--- br r31,8; a word that nothing leads to; ends 0
+-- br r31,8; a word that nothing leads to; an exit
 abbrev pub first_block : Block
 first_block = record { id = 0; label = at 0; opening = false; ops = []; last = Br (at 0) Straight 31 (at 8) }
 

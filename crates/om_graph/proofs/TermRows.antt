@@ -23,8 +23,9 @@ use Rattle.om_graph.specs.Rows.{at, writes_29}
 
 -- ---- a pair of which each half has a block of its own
 
--- bsr r26,24; lit r1,1c; bne r31,20; ends 0; br r31,18; and a procedure at 1c, whose second word a branch names, so that
--- each half has a block of its own, and past which the call goes by itself
+-- a call of 36; a load of the address 28; a branch to 32; an exit; a word that branches to itself; and from 28 on a
+-- procedure that begins with a pair. The branch names its second word, so that
+-- each half has a block of its own, and the call goes past it by itself
 abbrev pub half_entered : ProgramView
 half_entered =
     program_of

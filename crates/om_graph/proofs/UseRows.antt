@@ -70,7 +70,7 @@ jump_base : Act → ℕ
 jump_base (Plain (Jump kind ra rb hint)) = rb
 jump_base a = 31
 
--- lit r27,20; jsr r26,(r27)
+-- a load of the address 20 into r27; jsr r26,(r27)
 abbrev pub loads_27 : Word
 loads_27 = record { at = at 0; act = Lit 27 29 (target.Code (at 20)) }
 
