@@ -25,7 +25,7 @@ behind w = by_case _ refl
     by_case true e = let v = (is_from (next_place w.at) w e).1 in absurd (omega (arith, v))
 
 -- no word before a label is from it
-before_not : (l : Place) (w : Word) → (w.at.obj ≡ l.obj → w.at.off + 4 ≤ l.off) → from_place l w ≡ false
+pub before_not : (l : Place) (w : Word) → (w.at.obj ≡ l.obj → w.at.off + 4 ≤ l.off) → from_place l w ≡ false
 before_not l w h = by_case _ refl
   where
     by_case : (b : Bool) → from_place l w ≡ b → from_place l w ≡ false
@@ -146,7 +146,7 @@ before_split : (l : Place) (bf ws : List Word) → BeforeLabel l (rev_onto bf ws
 before_split l [] ws h = h
 before_split l (x ∷ bf) ws h = (before_split l bf (x ∷ ws) h).1
 
-from_split : (l : Place) (bf ws : List Word) → FromLabel l (rev_onto bf ws) → FromLabel l ws
+pub from_split : (l : Place) (bf ws : List Word) → FromLabel l (rev_onto bf ws) → FromLabel l ws
 from_split l [] ws h = h
 from_split l (x ∷ bf) ws h = (from_split l bf (x ∷ ws) h).1
 

@@ -1,17 +1,17 @@
 -- Facts on r29 that a check passes flow along a graph's run.
 use Rattle.std.proofs.Common.{◌≡◌, ◌⊎◌, inl, inr, ℕ, Bool, true, false, cond, List, [], ◌∷◌, Option, Some, None, refl, sym, ap, ◌∙◌, subst}
 use Rattle.om_value.specs.declared.value.Place.{Place}
-use Rattle.om_prog.specs.Act.{Word, Script}
+use Rattle.om_prog.specs.Act.{Word, Script, act_writes}
 use Rattle.om_prog.specs.Step.{SymState}
 use Rattle.om_prog.specs.Runs.{sym_run, sym_start}
 use Rattle.om_prog.specs.Flow.{act_jumps, GoesTo}
 use Rattle.om_prog.specs.Within.{ActWithin, StateWithin}
 use Rattle.om_prog.specs.View.{ProgramView}
-use Rattle.om_prog.specs.Facts.{Fact, Any, Table, Unknown, changed, changed_by, fact_behind, Allows, GpFlows, Holds}
+use Rattle.om_prog.specs.Facts.{Fact, Any, Table, Unknown, changed, changed_by, set_fact, fact_behind, has, Allows, GpFlows, Holds}
 use Rattle.om_prog.proofs.Facts.{Known, facts_hold, behind_holds, known_word, entry_holds}
 use Rattle.om_graph.specs.View.{Block, GraphView, Has}
 use Rattle.om_graph.specs.Run.{block_words, words, from_place, next_word, graph_script, all_words, rev_onto}
-use Rattle.om_graph.specs.Checks.{onward, end_fact, falls_in, jumps_in, GpChecked, told_in, told_or, told_at}
+use Rattle.om_graph.specs.Checks.{onward, end_fact, ReachesBlock, at_entry, enters_next, falls_in, jumps_in, GpChecked, told_in, told_or, told_at}
 use Rattle.om_graph.specs.Kept.{IsKeptLanding}
 use Rattle.om_graph.specs.Pass.{Keeping}
 use Rattle.om_graph.proofs.Placed.{Placed, JumpsLast, IsLabel, Lands}
@@ -39,6 +39,25 @@ allows_then (Table t) (Table u) (Table v) a b = a ∙ b
 allows_then Unknown Unknown h a b = b
 allows_then Unknown Any h a b = cc
 allows_then Unknown (Table u) h a b = cc
+
+-- a word keeps what is allowed
+pub allows_changed : (c : Script) (w : Word) (f h : Fact) → Allows f h → Allows (changed c w f) (changed c w h)
+allows_changed c w Any h a = tt
+allows_changed c w (Table x) (Table y) a = subst (λ (k : Fact). Allows (changed c w (Table x)) (changed c w k)) a (allows_same (changed c w (Table x)))
+allows_changed c w (Table x) Any a = cc
+allows_changed c w (Table x) Unknown a = by_case (has (act_writes w.act) 29)
+  where
+    by_case : (b : Bool) → Allows (cond b (set_fact c w w.act) (Table x)) (cond b (set_fact c w w.act) Unknown)
+    by_case true = allows_same (set_fact c w w.act)
+    by_case false = tt
+allows_changed c w Unknown Unknown a = allows_same (changed c w Unknown)
+allows_changed c w Unknown Any a = cc
+allows_changed c w Unknown (Table y) a = cc
+
+-- so do words
+allows_onward : (c : Script) (ws : List Word) (f h : Fact) → Allows f h → Allows (onward c f ws) (onward c h ws)
+allows_onward c [] f h a = a
+allows_onward c (w ∷ ws) f h a = allows_onward c ws (changed c w f) (changed c w h) (allows_changed c w f h a)
 
 module _ (c : Script) (facts : Place → Fact) where
   -- the fact behind words, the last one first
@@ -86,12 +105,12 @@ module _ (c : Script) (facts : Place → Fact) where
   abbrev pub fact_flow : Word → Fact → Fact → Type 0
   fact_flow w f g = Allows (changed c w f) g
 
-  onward_split : (f : Fact) (bf ws : List Word) → onward c facts f (rev_onto bf ws) ≡ onward c facts (behind f bf) ws
+  onward_split : (f : Fact) (bf ws : List Word) → onward c f (rev_onto bf ws) ≡ onward c (behind f bf) ws
   onward_split f [] ws = refl
   onward_split f (w ∷ bf) ws = onward_split f bf (w ∷ ws)
 
   end_split : (b : Block) (bf : List Word) (w : Word) → rev_onto bf (w ∷ []) ≡ block_words b → end_fact c facts b ≡ changed c w (behind (facts b.label) bf)
-  end_split b bf w e = ap (onward c facts (facts b.label)) (sym e) ∙ onward_split (facts b.label) bf (w ∷ [])
+  end_split b bf w e = ap (onward c (facts b.label)) (sym e) ∙ onward_split (facts b.label) bf (w ∷ [])
 
   pub laws : Laws Fact fact_in Unknown fact_enter fact_flow Allows
   laws = record {
@@ -105,10 +124,22 @@ module _ (c : Script) (facts : Place → Fact) where
   edge : (b n : Block) → Allows (end_fact c facts b) (facts n.label) → EdgeTo Fact fact_in Unknown fact_enter fact_flow Allows b n
   edge b n a = record {
     ends = λ bf w e. subst (λ (f : Fact). Allows f (facts n.label)) (end_split b bf w e) a;
-    empty = λ e. subst (λ (ws : List Word). Allows (onward c facts (facts b.label) ws) (facts n.label)) e a;
+    empty = λ e. subst (λ (ws : List Word). Allows (onward c (facts b.label) ws) (facts n.label)) e a;
   }
 
   module _ (g : GraphView) (checked : GpChecked c facts g) where
+    -- a block's fact allows what each walk over blocks leaves there
+    pub reaches_allows : (b : Block) (f : Fact) → ReachesBlock c g b f → Allows f (facts b.label)
+    reaches_allows b f (at_entry d h e) =
+        subst (λ (q : Place). Allows (Table (c.table c.entry.obj)) (facts q)) (sym e) (by_entry checked.entry)
+      where
+        by_entry : (facts c.entry ≡ Unknown) ⊎ (facts c.entry ≡ Table (c.table c.entry.obj)) → Allows (Table (c.table c.entry.obj)) (facts c.entry)
+        by_entry (inl i) = subst (λ (f : Fact). Allows (Table (c.table c.entry.obj)) f) (sym i) tt
+        by_entry (inr i) = subst (λ (f : Fact). Allows (Table (c.table c.entry.obj)) f) (sym i) refl
+    reaches_allows n f (enters_next b m h r e) =
+        allows_then (onward c h (block_words b)) (end_fact c facts b) (facts n.label)
+        (allows_onward c (block_words b) h (facts b.label) (reaches_allows b h r)) (checked.enters b n e)
+
     pub gp_edges : Edges Fact fact_in Unknown fact_enter fact_flow Allows g.blocks
     gp_edges =
         edges_of Fact fact_in Unknown fact_enter fact_flow Allows g.blocks g.blocks (λ b h. h) (λ b n h. h) (λ b h w ws e. allows_same (facts b.label))

@@ -14,7 +14,7 @@ use Rattle.om_graph.specs.declared.op.Last.TheVariants.{Fall, Off, Br, Cond, Cal
 use Rattle.om_graph.specs.View.{Block, GraphView, Has}
 use Rattle.om_graph.specs.Run.{block_words, all_words, words, last_words, graph_script}
 use Rattle.om_graph.specs.Form.{After, Ordered, is_address}
-use Rattle.om_graph.specs.LeftIn.{is_kept, ends_past, in_pair, goes_past, passes, passes_after, is_left, Keeps}
+use Rattle.om_graph.specs.LeftIn.{is_kept, ends_past, in_pair, goes_past, holds_word, passes, passes_after, is_left, Keeps}
 use Rattle.om_graph.specs.Matching.{Simulates}
 use Rattle.om_graph.specs.Pairs.{last_place, PairsApart}
 use Rattle.om_graph.proofs.Placed.{FromLabel, BeforeLabel, BeforeBlocks, Placed}
@@ -37,12 +37,12 @@ ordered_append [] ys o p f = p
 ordered_append (x ∷ xs) ys o p f =
     (after_each x xs ys o.0 (λ y h. f x y (inl refl) h), ordered_append xs ys o.1 p (λ z y h i. f z y (inr h) i))
 
-from_has : (l : Place) (ws : List Word) (w : Word) → FromLabel l ws → Has ws w → (w.at.obj ≡ l.obj) × (l.off ≤ w.at.off)
+pub from_has : (l : Place) (ws : List Word) (w : Word) → FromLabel l ws → Has ws w → (w.at.obj ≡ l.obj) × (l.off ≤ w.at.off)
 from_has l [] w f h = absurd h
 from_has l (x ∷ ws) w f (inl e) = subst (λ (y : Word). (y.at.obj ≡ l.obj) × (l.off ≤ y.at.off)) e f.0
 from_has l (x ∷ ws) w f (inr h) = from_has l ws w f.1 h
 
-before_has : (l : Place) (ws : List Word) (w : Word) → BeforeLabel l ws → Has ws w → w.at.obj ≡ l.obj → w.at.off + 4 ≤ l.off
+pub before_has : (l : Place) (ws : List Word) (w : Word) → BeforeLabel l ws → Has ws w → w.at.obj ≡ l.obj → w.at.off + 4 ≤ l.off
 before_has l [] w f h = absurd h
 before_has l (x ∷ ws) w f (inl e) = subst (λ (y : Word). y.at.obj ≡ l.obj → y.at.off + 4 ≤ l.off) e f.0
 before_has l (x ∷ ws) w f (inr h) = before_has l ws w f.1 h
@@ -99,6 +99,7 @@ pub record PastPair (g : GraphView) (c q : Place) : Type 0 where
   pub has_pair : Has g.blocks pair
   pub opens : pair.opening ≡ true
   pub inside : in_pair pair.label q ≡ true
+  pub holds : holds_word q pair ≡ true
   pub call : Block
   pub has_call : Has g.blocks call
   pub ends : ends_past c pair.label call.last ≡ true
@@ -119,11 +120,12 @@ both false b h = absurd (true≢false (sym h))
 
 pub past_pair : (g : GraphView) (c q : Place) → passes g c q ≡ true → PastPair g c q
 past_pair g c q h =
-    let b = find_block (λ b. b.opening && goes_past g c b.label q) g.blocks h in
+    let b = find_block (λ b. b.opening && holds_word q b && goes_past g c b.label q) g.blocks h in
     let o = both _ _ b.2 in
+    let v = both _ _ o.0 in
     let i = both _ _ o.1 in
     let n = find_block (λ n. ends_past c b.0.label n.last) g.blocks i.1 in
-    record { pair = b.0; has_pair = b.1; opens = o.0; inside = i.0; call = n.0; has_call = n.1; ends = n.2 }
+    record { pair = b.0; has_pair = b.1; opens = v.0; inside = i.0; holds = v.1; call = n.0; has_call = n.1; ends = n.2 }
 
 -- the last word of the call, and where it goes
 pub record PastCall (c q : Place) (last : Last) : Type 0 where

@@ -93,7 +93,7 @@ module _ (masks outs : Place → ℕ → Bool) where
 
   module _ (g : GraphView) (checked : MaskChecked masks g) (are : AreOuts masks outs g) where
     -- a block's mask has what is read from its start on
-    covered : (b : Block) → Has g.blocks b → (r : ℕ) → r < 31 → live_in (block_words b) (outs b.label) r ≡ true → masks b.label r ≡ true
+    pub covered : (b : Block) → Has g.blocks b → (r : ℕ) → r < 31 → live_in (block_words b) (outs b.label) r ≡ true → masks b.label r ≡ true
     covered b hb r l h = by_live (live_by (block_words b) (outs b.label) r h)
       where
         by_out : written_in (block_words b) r ≡ false → (n : Block) × Enters g b n × (masks n.label r ≡ true) → masks b.label r ≡ true

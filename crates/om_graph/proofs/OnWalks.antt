@@ -17,7 +17,7 @@ use Rattle.om_graph.proofs.Comes.{ordered_split}
 use Rattle.om_graph.proofs.Placed.{BeforeBlocks, Placed, IsLabel}
 use Rattle.om_graph.proofs.Places.{InLabels, end_none, jumps_last}
 use Rattle.om_graph.proofs.Blocks.{value_at, Edges, Laws, FoundAt, found_at, falls, come, land}
-use Rattle.om_graph.proofs.GpFacts.{fact_at, allows_then}
+use Rattle.om_graph.proofs.GpFacts.{fact_at, allows_then, allows_changed}
 use Rattle.om_graph.proofs.Masks.{live_at, among_true, has_among}
 use Rattle.om_value.specs.Same.{place_eq}
 use Rattle.om_graph.proofs.GpFacts as gp
@@ -47,12 +47,12 @@ not_there ws x w a h = is_false _ (λ e. never ws (same_place x.at w.at e) a h)
         omega (arith, f, b)
     never (y ∷ ws) e a (inr h) = never ws e a.1 h
 
-own_order : (bs : List Block) (b : Block) → Placed bs → Has bs b → Ordered (block_words b)
+pub own_order : (bs : List Block) (b : Block) → Placed bs → Has bs b → Ordered (block_words b)
 own_order [] b p h = absurd h
 own_order (x ∷ bs) b p (inl e) = subst (λ (y : Block). Ordered (block_words y)) e p.1
 own_order (x ∷ bs) b p (inr h) = own_order bs b p.4 h
 
-same_block :
+pub same_block :
     (bs : List Block) (b d : Block) (w : Word) → Placed bs → Has bs b → Has bs d → Has (block_words b) w → Has (block_words d) w → b ≡ d
 same_block [] b d w p h i m n = absurd h
 same_block (x ∷ bs) b d w p (inl h) (inl i) m n = sym h ∙ i
@@ -72,7 +72,7 @@ before_split (x ∷ bf) ws w o h =
     before_split bf (x ∷ ws) w o (inr h) ∙ ap (λ (b : Bool). cond b bf (before_of (x ∷ bf) ws w.at)) (not_there ws x w a.0 h)
 
 -- the same word has the same words before it
-same_before :
+pub same_before :
     (l bf bg ws xs : List Word) (w : Word) → Ordered l → rev_onto bf (w ∷ ws) ≡ l → rev_onto bg (w ∷ xs) ≡ l → bf ≡ bg
 same_before l bf bg ws xs w o e f =
     sym (at_word bf ws) ∙ sym (before_split bf (w ∷ ws) w (subst (λ (k : List Word). Ordered k) (sym e) o) (inl refl))
@@ -133,19 +133,6 @@ module _ (g : GraphView) (within : InLabels g) (placed : Placed g.blocks) (form 
       by_case : (b : Bool) → Told (cond b (set_fact c w w.act) Unknown)
       by_case true = set_told c w w.act
       by_case false = tt
-
-  allows_changed : (c : Script) (w : Word) (f h : Fact) → Allows f h → Allows (changed c w f) (changed c w h)
-  allows_changed c w Any h a = tt
-  allows_changed c w (Table x) (Table y) a = subst (λ (k : Fact). Allows (changed c w (Table x)) (changed c w k)) a (gp.allows_same (changed c w (Table x)))
-  allows_changed c w (Table x) Any a = cc
-  allows_changed c w (Table x) Unknown a = by_case (has (act_writes w.act) 29)
-    where
-      by_case : (b : Bool) → Allows (cond b (set_fact c w w.act) (Table x)) (cond b (set_fact c w w.act) Unknown)
-      by_case true = gp.allows_same (set_fact c w w.act)
-      by_case false = tt
-  allows_changed c w Unknown Unknown a = gp.allows_same (changed c w Unknown)
-  allows_changed c w Unknown Any a = cc
-  allows_changed c w Unknown (Table y) a = cc
 
   module _ (c : Script) (facts : Place → Fact) (checked : GpChecked c facts g) where
     abbrev at_place : Place → Fact
@@ -289,7 +276,7 @@ module _ (g : GraphView) (within : InLabels g) (placed : Placed g.blocks) (form 
 
   -- ---- masks
 
-  may_low : (r : ℕ) (p : Place) → MayRead g r p → r < 31
+  pub may_low : (r : ℕ) (p : Place) → MayRead g r p → r < 31
   may_low r p (reads q w e l m) = l
   may_low r p (goes q w x e n t m) = may_low r x m
 

@@ -92,18 +92,18 @@ not_empty [] x e = cc
 not_empty (y ∷ xs) x e = cc
 
 -- a word with another one behind it
-abbrev Inner : List Word → Word → Type 0
+abbrev pub Inner : List Word → Word → Type 0
 Inner [] w = ⊥
 Inner (y ∷ l) w = ((y ≡ w) × (l ≡ [] → ⊥)) ⊎ Inner l w
 
-inner_split : (bf : List Word) (w x : Word) (ws : List Word) → Inner (rev_onto bf (w ∷ x ∷ ws)) w
+pub inner_split : (bf : List Word) (w x : Word) (ws : List Word) → Inner (rev_onto bf (w ∷ x ∷ ws)) w
 inner_split bf w x ws = push bf (w ∷ x ∷ ws) (inl (refl, λ e. cc))
   where
     push : (bf l : List Word) → Inner l w → Inner (rev_onto bf l) w
     push [] l i = i
     push (y ∷ bf) l i = push bf (y ∷ l) (inr i)
 
-inner_append : (xs ys : List Word) (w : Word) → (Inner ys w → ⊥) → Inner (xs ++ ys) w → Has xs w
+pub inner_append : (xs ys : List Word) (w : Word) → (Inner ys w → ⊥) → Inner (xs ++ ys) w → Has xs w
 inner_append [] ys w n i = absurd (n i)
 inner_append (y ∷ xs) ys w n (inl e) = inl e.0
 inner_append (y ∷ xs) ys w n (inr i) = inr (inner_append xs ys w n i)
@@ -112,7 +112,7 @@ one_inner : (x w : Word) → Inner (x ∷ []) w → ⊥
 one_inner x w (inl e) = e.1 refl
 one_inner x w (inr i) = i
 
-last_inner : (last : Last) (w : Word) → Inner (last_words last) w → ⊥
+pub last_inner : (last : Last) (w : Word) → Inner (last_words last) w → ⊥
 last_inner Fall w i = i
 last_inner Off w i = i
 last_inner (Br at op ra to) w i = one_inner _ w i

@@ -30,14 +30,20 @@ pub data Enters (g : GraphView) (b n : Block) : Type 0 where
 
 -- ---- facts on r29
 
-module _ (c : Script) (facts : Place → Fact) where
-  -- the fact behind words
-  abbrev pub onward : Fact → List Word → Fact
-  onward f [] = f
-  onward f (w ∷ ws) = onward (changed c w f) ws
+-- the fact behind words
+abbrev pub onward : Script → Fact → List Word → Fact
+onward c f [] = f
+onward c f (w ∷ ws) = onward c (changed c w f) ws
 
+-- a walk over blocks comes to a kept block, and this is what it leaves in r29. Walks over words come to other places: where
+-- the last words of a block are gone, they go on behind those that are left, and not at the next block's label
+pub data ReachesBlock (c : Script) (g : GraphView) : Block → Fact → Type 0 where
+  at_entry : (b : Block) → Has g.blocks b → b.label ≡ c.entry → ReachesBlock c g b (Table (c.table c.entry.obj))
+  enters_next : (b n : Block) (f : Fact) → ReachesBlock c g b f → Enters g b n → ReachesBlock c g n (onward c f (block_words b))
+
+module _ (c : Script) (facts : Place → Fact) where
   abbrev pub end_fact : Block → Fact
-  end_fact b = onward (facts b.label) (block_words b)
+  end_fact b = onward c (facts b.label) (block_words b)
 
   pub record GpChecked (g : GraphView) : Type 0 where
     pub entry : (facts c.entry ≡ Unknown) ⊎ (facts c.entry ≡ Table (c.table c.entry.obj))
@@ -81,6 +87,11 @@ pub record AreOuts (masks outs : Place → ℕ → Bool) (g : GraphView) : Type 
   pub only :
       (b : Block) (r : ℕ) → Has g.blocks b → r < 31 → outs b.label r ≡ true →
       (n : Block) × Enters g b n × (masks n.label r ≡ true)
+
+-- a walk over blocks from a kept block on reads a register before it writes it
+pub data ReadsBlock (g : GraphView) (r : ℕ) : Block → Type 0 where
+  reads_in : (b : Block) → Has g.blocks b → reads_first (block_words b) r ≡ true → ReadsBlock g r b
+  reads_next : (b n : Block) → Enters g b n → written_in (block_words b) r ≡ false → ReadsBlock g r n → ReadsBlock g r b
 
 -- the registers that may be read from some words on, where out may be read behind them
 abbrev pub live_in : List Word → (ℕ → Bool) → ℕ → Bool

@@ -5,15 +5,16 @@ use Rattle.om_prog.specs.View.{ProgramView}
 use Rattle.om_prog.specs.Act.{Word}
 use Rattle.om_prog.specs.Runs.{sym_run}
 use Rattle.om_prog.specs.Within.{StateWithin}
-use Rattle.om_prog.specs.Facts.{Holds, Fact, fact_behind, IsFact}
+use Rattle.om_prog.specs.Facts.{Holds, Fact, Allows, changed_by, fact_behind, IsFact}
 use Rattle.om_graph.specs.View.{Block, GraphView, Has}
 use Rattle.om_graph.specs.Held.{IsGraph}
 use Rattle.om_graph.specs.Run.{block_words, rev_onto, graph_script}
 use Rattle.om_graph.specs.Form.{InForm, InPlace}
 use Rattle.om_graph.specs.LeftIn.{left_in, Keeps}
 use Rattle.om_graph.specs.Kept.{KeptInBlocks, IsKeptLabel, IsKeptLanding, Comes}
-use Rattle.om_graph.specs.Checks.{GpChecked, MaskChecked, AreOuts, told_at}
-use Rattle.om_graph.specs.Walks.{MayRead, IsGpFact}
+use Rattle.om_graph.specs.Checks.{GpChecked, Enters, ReachesBlock, ReadsBlock, MaskChecked, AreOuts, live_in, told_at}
+use Rattle.om_graph.specs.Outs.{outs_of}
+use Rattle.om_graph.specs.Walks.{WalksTo, MayRead, Reaches, IsGpFact}
 use Rattle.om_graph.specs.Pairs.{PairsApart}
 use Rattle.om_graph.specs.Whole.{IsWhole}
 use Rattle.om_graph.specs.Lifted.{IsLifted}
@@ -54,9 +55,18 @@ pub record RunsStayInKeptSet : Type 0 where
 
 -- ---- what checks say
 
--- a fact of a block that a check passes is the GP fact in front of the block's words, and r29 holds what it says
--- wherever a run comes
+-- a fact of a block that a check passes is the GP fact in front of the block's words, and r29 holds what it says wherever a
+-- run comes. What walks over blocks leave it allows, and walks over words leave that too, so the best facts are those that
+-- walks over blocks leave
 pub record CheckedFactsHold : Type 0 where
+  pub blocks :
+      (p : ProgramView) (g : GraphView) (facts : Place → Fact) → GpChecked (graph_script p g) facts g → (b : Block) (f : Fact) →
+      ReachesBlock (graph_script p g) g b f → Allows f (facts b.label)
+  -- where a walk over blocks comes, a walk over words comes to each word, with what the words before it leave
+  pub reached :
+      (p : ProgramView) (g : GraphView) → IsGraph g → InForm g → InPlace g → (b : Block) (f : Fact) (bf : List Word) (w : Word) (ws : List Word) →
+      ReachesBlock (graph_script p g) g b f → rev_onto bf (w ∷ ws) ≡ block_words b →
+      Reaches (graph_script p g) g w (changed_by (graph_script p g) f bf)
   pub walks :
       (p : ProgramView) (g : GraphView) (facts : Place → Fact) → IsGraph g → InForm g → InPlace g →
       GpChecked (graph_script p g) facts g →
@@ -70,11 +80,27 @@ pub record CheckedFactsHold : Type 0 where
       (told_at (graph_script p g) facts g.blocks (sym_run (graph_script p g) input n).place)
       (sym_run (graph_script p g) input n)
 
--- masks that a check passes have each register that some walk may read from a block's start on
+-- masks that a check passes have each register that some walk may read from a block's start on, and tell which may be read
+-- behind each of its words. What walks over blocks read, walks over words read, so the least masks have no other register
 pub record CheckedMasksHold : Type 0 where
+  -- what may be read from the ends of blocks on can be computed
+  pub outs : (g : GraphView) (masks : Place → ℕ → Bool) → IsGraph g → AreOuts masks (outs_of g masks) g
   pub walks :
+      (g : GraphView) (masks : Place → ℕ → Bool) → IsGraph g → InForm g → InPlace g → MaskChecked masks g →
+      (b : Block) (r : ℕ) → Has g.blocks b → MayRead g r b.label → masks b.label r ≡ true
+  pub inside :
       (g : GraphView) (masks outs : Place → ℕ → Bool) → IsGraph g → InForm g → InPlace g → MaskChecked masks g →
-      AreOuts masks outs g → (b : Block) (r : ℕ) → Has g.blocks b → MayRead g r b.label → masks b.label r ≡ true
+      AreOuts masks outs g → (b : Block) (bf : List Word) (w : Word) (ws : List Word) (q : Place) (r : ℕ) →
+      Has g.blocks b → rev_onto bf (w ∷ ws) ≡ block_words b → WalksTo g w q → MayRead g r q →
+      live_in ws (outs b.label) r ≡ true
+  -- what walks over blocks read walks over words read, from a block's start on and behind each of its words
+  pub blocks :
+      (g : GraphView) → IsGraph g → InForm g → InPlace g → (b : Block) (r : ℕ) → r < 31 → ReadsBlock g r b → MayRead g r b.label
+  pub behind :
+      (g : GraphView) → IsGraph g → InForm g → InPlace g → (b : Block) (bf : List Word) (w : Word) (ws : List Word) (r : ℕ) (out : ℕ → Bool) →
+      Has g.blocks b → r < 31 → rev_onto bf (w ∷ ws) ≡ block_words b →
+      (out r ≡ true → (n : Block) × Enters g b n × ReadsBlock g r n) → live_in ws out r ≡ true →
+      (q : Place) × WalksTo g w q × MayRead g r q
 
 -- ---- programs and their graphs
 

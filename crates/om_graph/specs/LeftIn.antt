@@ -9,9 +9,9 @@ use Rattle.om_prog.specs.Runs.{sym_run, trace, IsClean, Alike}
 use Rattle.om_prog.specs.View.{ProgramView}
 use Rattle.om_graph.specs.declared.op.Last.{Last}
 use Rattle.om_graph.specs.declared.op.Last.TheVariants.{Br, Call}
-use Rattle.om_graph.specs.View.{GraphView, Has}
+use Rattle.om_graph.specs.View.{Block, GraphView, Has}
 use Rattle.om_graph.specs.Form.{is_address}
-use Rattle.om_graph.specs.Run.{words, next_word, graph_script}
+use Rattle.om_graph.specs.Run.{block_words, words, next_word, graph_script}
 
 -- whether a word at a place is kept
 abbrev pub is_kept : GraphView → Place → Bool
@@ -32,9 +32,13 @@ in_pair q p = (p.obj == q.obj) && ((p.off == q.off) || (p.off == q.off + 4))
 abbrev pub goes_past : GraphView → Place → Place → Place → Bool
 goes_past g c q p = in_pair q p && is_some (find (λ b. ends_past c q b.last) g.blocks)
 
--- p is a word of an opening pair, of a kept block, past which the word at c goes
+-- a word of a block stands at a place
+abbrev pub holds_word : Place → Block → Bool
+holds_word p b = is_some (find (λ w. place_eq w.at p) (block_words b))
+
+-- p is a word of an opening pair, in the kept block that begins with it, past which the word at c goes
 abbrev pub passes : GraphView → Place → Place → Bool
-passes g c p = is_some (find (λ b. b.opening && goes_past g c b.label p) g.blocks)
+passes g c p = is_some (find (λ b. b.opening && holds_word p b && goes_past g c b.label p) g.blocks)
 
 -- ---- steps left in
 

@@ -17,6 +17,8 @@ pub mod Laws
 pub mod Landing
 pub mod Lifted
 pub mod Uses
+pub mod Outs
+pub mod ActRows
 pub mod OfProgram
 pub mod Fits
 pub mod Rows

@@ -4,7 +4,7 @@ use Rattle.om_value.specs.declared.value.Place.{Place}
 use Rattle.om_prog.specs.Act.{Word}
 use Rattle.om_graph.specs.declared.op.Last.{Last}
 use Rattle.om_graph.specs.View.{Block, GraphView}
-use Rattle.om_graph.specs.Run.{words}
+use Rattle.om_graph.specs.Run.{block_words}
 use Rattle.om_graph.specs.Form.{is_address}
 
 abbrev pub onto_words : Option Word → List Word → List Word
@@ -24,10 +24,10 @@ pub record SameFrame (old new : GraphView) : Type 0 where
 
 -- ---- words and ends of blocks
 
--- the words of the new graph are those of the old one as a pass leaves them, each at its place; no word becomes one that
--- came from a LITERAL load or a GPDISP
+-- the words of each block of the new graph are those of the old one as a pass leaves them, each at its place; no word
+-- becomes one that came from a LITERAL load or a GPDISP
 pub record EachWord (f : Word → Option Word) (old new : GraphView) : Type 0 where
-  pub words : words new ≡ each_word f (words old)
+  pub words : map block_words new.blocks ≡ map (λ b. each_word f (block_words b)) old.blocks
   pub places : (w u : Word) → f w ≡ Some u → u.at ≡ w.at
   pub addresses : (w u : Word) → f w ≡ Some u → is_address u.act ≡ true → is_address w.act ≡ true
 

@@ -1,6 +1,7 @@
 -- Uses of results within a block, known calls and pairs: what the rules of rewriting speak of. r31 is never set, read or
--- written.
-use Rattle.std.specs.Prelude.{◌≡◌, ℕ, ◌+◌, ℤ, true, List, ◌∷◌, ◌++◌, IsTrue}
+-- written: a local use is of another register, and what is said of none that reads or writes takes r31 as it stands in
+-- the words.
+use Rattle.std.specs.Prelude.{◌≡◌, ◌⊎◌, ℕ, ◌+◌, ℤ, true, List, ◌∷◌, ◌++◌, IsTrue}
 use Rattle.om_isa.specs.declared.instr.Access.TheVariants.{Address, Store}
 use Rattle.om_isa.specs.declared.instr.JumpOp.TheVariants.{Jsr}
 use Rattle.om_isa.specs.declared.instr.Opnd.TheVariants.{R, Lit as Literal}
@@ -28,6 +29,10 @@ NoneReads r ws = (w : Word) → Has ws w → Among (act_reads w.act) r → ⊥
 
 abbrev pub NoneWrites : ℕ → List Word → Type 0
 NoneWrites r ws = (w : Word) → Has ws w → Among (act_writes w.act) r → ⊥
+
+-- a register is the same behind words as in front of them; r31 always is
+abbrev pub Unwritten : ℕ → List Word → Type 0
+Unwritten r ws = (r ≡ 31) ⊎ NoneWrites r ws
 
 -- of the words of a block one reads in a register what an earlier one wrote there
 pub record IsLocalUse (ws : List Word) (def user : Word) (r : ℕ) : Type 0 where

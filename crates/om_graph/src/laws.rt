@@ -18,12 +18,13 @@ pub fn runs_stay_in_kept_set()
     ensures { RunsStayInKeptSet }
 {}
 
-/// Facts on r29 that a check passes hold on every walk and in every run.
+/// Facts on r29 that a check passes hold on every walk and in every run; walks over blocks are walks over words.
 pub fn checked_facts_hold()
     ensures { CheckedFactsHold }
 {}
 
-/// Masks that a check passes have each register that may be read.
+/// Masks that a check passes have each register that may be read, and tell which may be read behind each word; what walks
+/// over blocks read may be read.
 pub fn checked_masks_hold()
     ensures { CheckedMasksHold }
 {}
