@@ -31,7 +31,7 @@ any_more x y seen h = by_test (y == x)
     by_test false = h
 
 -- what was seen is not among bytes that do not repeat
-not_seen : (seen bs : List ℕ) (x : ℕ) → repeats seen bs ≡ false → any_of (λ c. c == x) seen ≡ true → In bs x → ⊥
+pub not_seen : (seen bs : List ℕ) (x : ℕ) → repeats seen bs ≡ false → any_of (λ c. c == x) seen ≡ true → In bs x → ⊥
 not_seen seen [] x h s i = i
 not_seen seen (b ∷ bs) x h s (inl e) =
     let k = (or_false (any_of (λ c. c == b) seen) (repeats (b ∷ seen) bs) h).0 in

@@ -71,7 +71,7 @@ placed_in objects s (Some m) obj n off e =
     let c : offset_in (section_of (object_at objects s.obj) m) s.symbol.value ≡ off = cc in
     (ap (λ k. Some k) b, a, ap (λ k. offset_in (section_of (object_at objects s.obj) k) s.symbol.value) (sym b) ∙ c)
 
-not_place : (p : Parts) (value n : ℕ) (o : Option Section) → section_of p n ≡ o → is_no_place p value o ≡ false → (s : Section) × (o ≡ Some s) × (nat_lt s.size (minus_64 value s.addr) ≡ false) × ((s.number ≡ 1) → is_word p (minus_64 value s.addr) ≡ true)
+pub not_place : (p : Parts) (value n : ℕ) (o : Option Section) → section_of p n ≡ o → is_no_place p value o ≡ false → (s : Section) × (o ≡ Some s) × (nat_lt s.size (minus_64 value s.addr) ≡ false) × ((s.number ≡ 1) → is_word p (minus_64 value s.addr) ≡ true)
 not_place p value n None e h = cc
 not_place p value n (Some s) e h =
     let b = or_false (nat_lt s.size (minus_64 value s.addr)) ((s.number == 1) && not (is_word p (minus_64 value s.addr))) h in
