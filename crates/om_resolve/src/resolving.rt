@@ -16,7 +16,7 @@ use crate::texts::texts;
 use crate::totals::check_limits;
 use om_io::{Name, NoMemory};
 use om_object::Object;
-use om_prog::Program;
+use om_prog::{ProgErr, Program};
 use om_value::Place;
 use std::alloc::Global;
 
@@ -158,7 +158,8 @@ fn program(alloc: Global, l: &Linked<'_>) -> Result<Program, NoMemory>
     let entry = entry(l)?;
     match Program::make(alloc, texts, regions, entry) {
         Ok(program) => Ok(program),
-        Err(_) => Err(NoMemory),
+        Err(ProgErr::NoMemory) => Err(NoMemory),
+        Err(ProgErr::Bad) => unreachable!(),
     }
 }
 

@@ -24,6 +24,7 @@ returns-clause-linked c =
     c.in_ok-numbers.ensures.known ∙ ap (λ (ns : List Name). fold (noted objects ns) c.in_ok-known.known.items seen) names
     ∙ ap (λ (ks : List Known). fold (noted objects (names_of objects)) ks seen) start ∙ all_known objects in
     record {
+      sound = c.in_ok-starts.ensures.sound;
       names = names;
       numbers = c.in_ok-numbers.ensures.numbers ∙ ap (λ (ns : List Name). map (λ (p : Parts). map (λ (y : ExtSym). number_in ns y.name) p.symbols) objects) names;
       known = known;
