@@ -1,28 +1,26 @@
 -- The regions of the program of objects: their form, and their fields, which lie apart.
-use Rattle.std.proofs.Common.{◌≡◌, ◌⊎◌, inl, inr, ℕ, zero, suc, ◌+◌, ◌-◌, ◌*◌, ◌/◌, ◌%◌, ◌^◌, ◌<◌, ◌≤◌, Bool, true, false, cond, not, ◌&&◌, ◌||◌, ◌==◌, nat_lt, nat_le, List, [], ◌∷◌, length, Option, Some, None, refl, ap, sym, subst, ◌∙◌, arith, slice_index_or}
-use Rattle.std.specs.Prelude.{slice_get}
+use Rattle.std.proofs.Common.{◌≡◌, inl, ℕ, ◌+◌, ◌-◌, ◌%◌, ◌^◌, ◌<◌, ◌≤◌, Bool, true, false, cond, not, ◌&&◌, ◌||◌, ◌==◌, nat_lt, nat_le, List, [], ◌∷◌, length, Some, None, refl, ap, sym, subst, ◌∙◌, arith}
 use Rattle.std.specs.Option.{option_to_list}
-use Rattle.std.proofs.lemmas.Bool.{eqb-true, eqb-false}
+use Rattle.std.proofs.lemmas.Bool.{eqb-true}
 use Rattle.std.proofs.lemmas.Bool.Decides.{nat_tests}
-use Rattle.om_fields.specs.Places.{joined, round_up}
+use Rattle.om_fields.specs.Places.{round_up}
 use Rattle.om_fields.specs.Sections.{is_bss}
-use Rattle.om_reloc.specs.declared.reloc.RelocKind.{RelocKind}
 use Rattle.om_reloc.specs.declared.reloc.RelocKind.TheVariants.{RefQuad, GpRel32}
 use Rattle.om_object.specs.declared.parts.Section.{Section}
 use Rattle.om_object.specs.declared.parts.Parts.{Parts}
 use Rattle.om_object.specs.declared.rules.RelocRule.TheVariants.{Placed}
 use Rattle.om_object.specs.Words.{section_of, offset_of}
-use Rattle.om_object.specs.Rules.{reloc_at, bytes_by_kind, field_bytes, holds_data, may_stand, bytes_wanted, is_shared, IsObject}
-use Rattle.om_value.specs.declared.value.Region.TheVariants.{Sec, Common}
+use Rattle.om_object.specs.Rules.{reloc_at, bytes_by_kind, field_bytes, holds_data, may_stand, is_shared, IsObject}
+use Rattle.om_value.specs.declared.value.Region.TheVariants.{Common}
 use Rattle.om_prog.specs.declared.item.Field.{Field}
 use Rattle.om_prog.specs.declared.region.RegionInit.{RegionInit}
-use Rattle.om_prog.specs.Valid.{are_apart, AreApart, HasForm, IsField, AreFields, IsRegionInit, AreRegions, width_of}
+use Rattle.om_prog.specs.Valid.{are_apart, AreApart, HasForm, IsField, AreFields, IsRegionInit, AreRegions}
 use Rattle.om_resolve.specs.Names.{object_at}
-use Rattle.om_resolve.specs.Causes.{broken_at, first_cause}
+use Rattle.om_resolve.specs.Causes.{first_cause}
 use Rattle.om_resolve.specs.Program.{field_by, fields_of, region_of, program_of}
 use Rattle.om_resolve.proofs.Members.{In, in_given, got_in}
 use Rattle.om_resolve.proofs.Pairwise.{Pairwise, pairwise_at, pairwise_joined, pairwise_option}
-use Rattle.om_resolve.proofs.ObjectFacts.{or_false, not_true}
+use Rattle.om_resolve.proofs.ObjectFacts.{not_true}
 use Rattle.om_resolve.proofs.ProgramWords.{found_at}
 use Rattle.om_resolve.proofs.ProgramBytes.{bytes_apart, byte_in_field}
 use Rattle.om_resolve.proofs.ProgramRegions.{IsRegion, of_section, of_common, region_is}
@@ -73,9 +71,6 @@ apart_by s i j f g cf cg never = by_test (nat_lt f.off (g.off + g.width)) (nat_l
     by_test false b u v = refl
     by_test true false u v = refl
     by_test true true u v = absurd (by_order (grind (arith, nat_tests)) (grind (arith, nat_tests)) (nat_le f.off g.off) refl)
-
-
-
 
 fields_apart : (objects : List Parts) (obj : ℕ) (s : Section) → ((i : ℕ) → i < length s.relocs → is_shared s i ≡ false) → AreApart (fields_of objects obj s)
 unfolding fields_of

@@ -1,6 +1,6 @@
 -- The words of the program of objects: each has its instruction, and a role that fits it.
-use Rattle.std.proofs.Common.{◌≡◌, ◌⊎◌, inl, inr, ℕ, zero, suc, ◌+◌, ◌-◌, ◌*◌, ◌/◌, ◌%◌, ◌^◌, ◌<◌, ◌≤◌, Bool, true, false, cond, not, ◌&&◌, ◌||◌, ◌==◌, nat_lt, nat_le, List, [], ◌∷◌, length, Option, Some, None, refl, ap, sym, subst, ◌∙◌, arith, slice_index_or}
-use Rattle.std.specs.Prelude.{ℤ, pos, ◌*ℤ◌, is_none, is_some, count_by, slice_get, option_map, option_and_then, unwrap_or}
+use Rattle.std.proofs.Common.{◌≡◌, ◌⊎◌, inl, inr, ℕ, zero, suc, ◌+◌, ◌*◌, ◌/◌, ◌%◌, ◌^◌, ◌<◌, ◌≤◌, Bool, true, false, cond, not, ◌&&◌, ◌||◌, ◌==◌, nat_lt, nat_le, List, [], ◌∷◌, length, Option, Some, None, refl, ap, sym, subst, ◌∙◌, arith, slice_index_or}
+use Rattle.std.specs.Prelude.{ℤ, pos, ◌*ℤ◌, is_none, count_by, option_map, unwrap_or}
 use Rattle.std.specs.Int.{w32, w64, cast_signed, cast_unsigned}
 use Rattle.std.proofs.lemmas.Bool.{eqb-true}
 use Rattle.std.proofs.lemmas.Bool.Decides.{nat_tests}
@@ -8,7 +8,7 @@ use Rattle.std.proofs.lemmas.Int.{ints}
 use Rattle.std.proofs.lemmas.List.Sums.{sum_by-cons}
 use Rattle.om_fields.specs.Places.{any_of, each, each_from, number_at}
 use Rattle.om_isa.specs.declared.instr.Instr.{Instr}
-use Rattle.om_isa.specs.declared.instr.Instr.TheVariants.{Mem, Branch, Halt}
+use Rattle.om_isa.specs.declared.instr.Instr.TheVariants.{Mem, Branch}
 use Rattle.om_isa.specs.declared.instr.MemOp.TheVariants.{Lda, Ldah, Ldq}
 use Rattle.om_isa.specs.declared.instr.BrOp.{BrOp}
 use Rattle.om_isa.specs.Words.{instr_of}
@@ -19,7 +19,7 @@ use Rattle.om_reloc.specs.declared.reloc.RelocKind.TheVariants.{GpDisp, BrAddr}
 use Rattle.om_object.specs.declared.parts.Section.{Section}
 use Rattle.om_object.specs.declared.parts.Parts.{Parts}
 use Rattle.om_object.specs.declared.rules.RelocRule.TheVariants.{Inside, Aligned, Paired}
-use Rattle.om_object.specs.Words.{section_of, offset_of, is_word, instr_in, ldah_disp, lda_disp, branch_disp, moved, lda_offset, base_by, base_offset, own_target}
+use Rattle.om_object.specs.Words.{section_of, offset_of, is_word, instr_in, ldah_disp, lda_disp, branch_disp, lda_offset, base_by, base_offset, own_target}
 use Rattle.om_object.specs.Aims.{Symbol, branch_aim}
 use Rattle.om_object.specs.Rules.{no_reloc, reloc_at, is_braddr, is_gpdisp, is_no_base, is_unpaired, is_unreadable, goes_astray, is_astray, is_branch_field, is_bound, four_bytes, field_bytes, field_width, IsObject}
 use Rattle.om_value.specs.declared.value.Place.{Place}
@@ -28,12 +28,12 @@ use Rattle.om_value.specs.declared.value.Target.TheVariants.{Num, Ptr, Code}
 use Rattle.om_value.specs.Same.{place_eq}
 use Rattle.om_prog.specs.declared.item.Item.{Item}
 use Rattle.om_prog.specs.declared.item.Role.{Role}
-use Rattle.om_prog.specs.declared.item.Role.TheVariants.{Plain, Lit, GpHi, GpLo, To}
+use Rattle.om_prog.specs.declared.item.Role.TheVariants.{Lit, GpHi, GpLo, To}
 use Rattle.om_prog.specs.View.{item_at, is_word as is_program_word}
-use Rattle.om_prog.specs.Valid.{is_target, fits, names_high, is_low_of, is_high_role, is_high, target_of_role, literal_of}
+use Rattle.om_prog.specs.Valid.{fits, names_high, is_low_of, is_high_role, is_high, target_of_role, literal_of}
 use Rattle.om_resolve.specs.Names.{object_at}
 use Rattle.om_resolve.specs.Targets.{target_of}
-use Rattle.om_resolve.specs.Causes.{branch_target, code_of, broken_at, first_cause}
+use Rattle.om_resolve.specs.Causes.{branch_target, code_of, first_cause}
 use Rattle.om_resolve.specs.Program.{place_at, role_by_disp, own_role, role_given, roles_in, role_at, item_of, literal_target, program_of}
 use Rattle.om_resolve.proofs.Members.{In}
 use Rattle.om_resolve.proofs.ObjectFacts.{or_false, and_false, not_true, stays_in, is_readable}
@@ -42,8 +42,8 @@ use Rattle.om_resolve.proofs.ProgramBytes.{others_apart, four_in}
 use Rattle.om_resolve.proofs.ProgramWords.{found_at, text_is_even, item_there, word_there}
 use Rattle.om_resolve.proofs.ProgramTargets.{aim_is_target}
 use Rattle.om_resolve.proofs.ProgramFields.{SoundSection, sound_section, kept_by}
-use Rattle.om_resolve.proofs.ProgramLoads.{LoadsSlot, ldq_is, loads_slot, load_is_target, load_is_reached, reached_target}
-use Rattle.om_resolve.proofs.ProgramRoles.{Gives, loads, high, low, branches, first_byte, gives_byte, halves_apart, given_by, gives_given}
+use Rattle.om_resolve.proofs.ProgramLoads.{ldq_is, loads_slot, load_is_target, load_is_reached, reached_target}
+use Rattle.om_resolve.proofs.ProgramRoles.{Gives, loads, high, low, branches, first_byte, halves_apart, given_by, gives_given}
 
 -- ---- lists
 

@@ -1,8 +1,8 @@
 -- What the address loads of the program of objects aim at: each is there, and a text has few.
-use Rattle.std.proofs.Common.{◌≡◌, ◌⊎◌, inl, inr, ℕ, zero, suc, ◌+◌, ◌-◌, ◌*◌, ◌/◌, ◌%◌, ◌^◌, ◌<◌, ◌≤◌, Bool, true, false, cond, ◌&&◌, ◌==◌, nat_le, List, [], ◌∷◌, length, Option, Some, None, refl, ap, sym, subst, ◌∙◌, arith, slice_index_or}
+use Rattle.std.proofs.Common.{◌≡◌, inl, inr, ℕ, suc, ◌+◌, ◌%◌, ◌<◌, Bool, true, false, cond, ◌&&◌, ◌==◌, nat_le, List, [], ◌∷◌, length, Option, Some, None, refl, ap, sym, subst, ◌∙◌, arith, slice_index_or}
 use Rattle.std.specs.Prelude.{ℤ, find, option_map, option_and_then, unwrap_or}
 use Rattle.std.proofs.lemmas.Bool.{eqb-true}
-use Rattle.om_fields.specs.Places.{each, minus_64, number_at}
+use Rattle.om_fields.specs.Places.{minus_64, number_at}
 use Rattle.om_isa.specs.declared.instr.Instr.{Instr}
 use Rattle.om_isa.specs.declared.instr.Instr.TheVariants.{Mem}
 use Rattle.om_isa.specs.declared.instr.MemOp.TheVariants.{Ldq}
@@ -14,12 +14,11 @@ use Rattle.om_reloc.specs.declared.reloc.RelocKind.TheVariants.{RefQuad}
 use Rattle.om_object.specs.declared.parts.Section.{Section}
 use Rattle.om_object.specs.declared.parts.Parts.{Parts}
 use Rattle.om_object.specs.Words.{section_of, offset_of, instr_in, ldq_disp, moved, slot_in, slot_of}
-use Rattle.om_object.specs.Aims.{Aim, Number, is_quad, quad_aim, slot_aim}
+use Rattle.om_object.specs.Aims.{Number, is_quad, quad_aim, slot_aim}
 use Rattle.om_object.specs.Rules.{no_reloc, reloc_at, IsObject}
 use Rattle.om_value.specs.declared.value.Target.{Target}
 use Rattle.om_value.specs.declared.value.Target.TheVariants.{Num}
-use Rattle.om_prog.specs.declared.item.Item.{Item}
-use Rattle.om_prog.specs.Valid.{is_target, literal_of, slots}
+use Rattle.om_prog.specs.Valid.{is_target}
 use Rattle.om_resolve.specs.Names.{object_at}
 use Rattle.om_resolve.specs.Targets.{target_of}
 use Rattle.om_resolve.specs.Program.{literal_target, program_of}

@@ -1,43 +1,40 @@
 -- What distances from global pointers lead to in the program of objects, and the widths of its fields.
-use Rattle.std.proofs.Common.{◌≡◌, ◌⊎◌, inl, inr, ℕ, zero, suc, ◌+◌, ◌*◌, ◌/◌, ◌%◌, ◌^◌, ◌<◌, ◌≤◌, Bool, true, false, cond, not, ◌&&◌, ◌||◌, ◌==◌, nat_lt, nat_le, List, [], ◌∷◌, length, Option, Some, None, refl, ap, sym, subst, ◌∙◌, arith, slice_index_or}
-use Rattle.std.specs.Prelude.{is_some, is_none, slice_get, find}
+use Rattle.std.proofs.Common.{◌≡◌, ℕ, ◌<◌, ◌≤◌, Bool, true, false, cond, not, ◌&&◌, ◌||◌, ◌==◌, nat_lt, List, [], ◌∷◌, length, Option, Some, None, refl, ap, sym, subst, ◌∙◌, arith}
+use Rattle.std.specs.Prelude.{is_some, is_none, slice_get}
 use Rattle.std.specs.Int.{w64, cast_unsigned}
-use Rattle.std.proofs.lemmas.Bool.{eqb-true, eqb-false}
+use Rattle.std.proofs.lemmas.Bool.{eqb-false}
 use Rattle.std.proofs.lemmas.Bool.Decides.{nat_tests}
 use Rattle.om_fields.specs.Places.{round_up, minus_64}
 use Rattle.om_fields.proofs.Each.{each_from-length}
-use Rattle.om_reloc.specs.declared.reloc.Reloc.{Reloc}
-use Rattle.om_reloc.specs.declared.reloc.RelocKind.{RelocKind}
-use Rattle.om_reloc.specs.declared.reloc.RelocKind.TheVariants.{RefQuad, GpRel32}
+use Rattle.om_reloc.specs.declared.reloc.RelocKind.TheVariants.{GpRel32}
 use Rattle.om_object.specs.declared.parts.Section.{Section}
 use Rattle.om_object.specs.declared.parts.Parts.{Parts}
 use Rattle.om_object.specs.declared.rules.RelocRule.TheVariants.{Named, Targeted}
-use Rattle.om_object.specs.Words.{section_of, offset_of, is_word, moved}
-use Rattle.om_object.specs.Aims.{Aim, Number, Inside, Symbol, inside, local_aim, gp_value, gp_aim}
+use Rattle.om_object.specs.Words.{section_of, is_word, moved}
+use Rattle.om_object.specs.Aims.{Number, Symbol, inside, local_aim, gp_value}
 use Rattle.om_object.specs.Rules.{reloc_at, has_target, misses, names_no_section, names_nothing, is_no_place, IsObject}
 use Rattle.om_value.specs.declared.value.Region.{Region}
-use Rattle.om_value.specs.declared.value.Region.TheVariants.{Sec, Common}
+use Rattle.om_value.specs.declared.value.Region.TheVariants.{Sec}
 use Rattle.om_value.specs.declared.value.Target.{Target}
 use Rattle.om_value.specs.declared.value.Target.TheVariants.{Num, Ptr, Code}
 use Rattle.om_value.specs.declared.value.Value.TheVariants.{GpOff}
 use Rattle.om_value.specs.Same.{region_eq}
 use Rattle.om_prog.specs.declared.item.Field.{Field}
 use Rattle.om_prog.specs.declared.region.RegionInit.{RegionInit}
-use Rattle.om_prog.specs.View.{init_of, is_word as is_program_word}
+use Rattle.om_prog.specs.View.{init_of}
 use Rattle.om_prog.specs.Valid.{has_region, is_target, is_up_to, is_near_target, width_of}
-use Rattle.om_resolve.specs.declared.definition.Definition.{Definition}
 use Rattle.om_resolve.specs.declared.definition.Definition.TheVariants.{AsCommon}
-use Rattle.om_resolve.specs.Names.{Name, Seen, object_at, names_of, number_of, number_in, defining, common_sizes, greatest, by_symbols, defined_by, placed_by, definition_of, definition_by_name, definition_at}
+use Rattle.om_resolve.specs.Names.{Name, Seen, object_at, names_of, number_of, defining, common_sizes, greatest, by_symbols, placed_by, definition_of, definition_by_name, definition_at}
 use Rattle.om_resolve.specs.Targets.{rounded, section_size, common_size, byte_in, place_in, target_of}
 use Rattle.om_resolve.specs.Causes.{region_size, gp_target, is_no_gp_target, broken_at, first_cause}
-use Rattle.om_resolve.specs.Program.{place_at, text_of, region_of, program_of}
-use Rattle.om_resolve.proofs.Members.{In, found_in}
+use Rattle.om_resolve.specs.Program.{place_at, text_of, program_of}
+use Rattle.om_resolve.proofs.Members.{found_in}
 use Rattle.om_resolve.proofs.Naming.{names_distinct, number_there}
-use Rattle.om_resolve.proofs.ObjectFacts.{or_false, and_false, not_true}
-use Rattle.om_resolve.proofs.ProgramWords.{found_at, word_there}
+use Rattle.om_resolve.proofs.ObjectFacts.{or_false, and_false}
+use Rattle.om_resolve.proofs.ProgramWords.{word_there}
 use Rattle.om_resolve.proofs.ProgramNames.{not_place}
 use Rattle.om_resolve.proofs.ProgramRegions.{IsRegion, of_section, of_common, region_is, region_same}
-use Rattle.om_resolve.proofs.ProgramTargets.{AimsElsewhere, aim_is_target, section_has_region}
+use Rattle.om_resolve.proofs.ProgramTargets.{aim_is_target, section_has_region}
 use Rattle.om_resolve.proofs.ProgramFields.{SoundSection, kept_by, IsFieldOf, quad, distance}
 use Rattle.om_resolve.proofs.ProgramWidths.{address_width, quad_is_target}
 use Rattle.om_resolve.proofs.Uncaused.{gp_unbroken}

@@ -1,9 +1,9 @@
 -- Each region of the program of objects stands once.
-use Rattle.std.proofs.Common.{◌≡◌, ◌⊎◌, inl, inr, ℕ, zero, suc, ◌+◌, ◌<◌, ◌≤◌, Bool, true, false, cond, ◌&&◌, ◌==◌, nat_lt, List, [], ◌∷◌, ◌++◌, length, Option, Some, None, refl, ap, sym, subst, ◌∙◌, arith, slice_index_or}
-use Rattle.std.specs.Prelude.{slice_get, option_map}
+use Rattle.std.proofs.Common.{◌≡◌, inl, inr, ℕ, zero, suc, ◌<◌, Bool, true, false, ◌&&◌, ◌==◌, List, [], ◌∷◌, length, Option, Some, None, refl, ap, sym, ◌∙◌, arith, slice_index_or}
+use Rattle.std.specs.Prelude.{option_map}
 use Rattle.std.specs.Option.{option_to_list}
 use Rattle.std.proofs.lemmas.Bool.Decides.{nat_tests}
-use Rattle.om_fields.specs.Places.{joined, round_up}
+use Rattle.om_fields.specs.Places.{joined}
 use Rattle.om_object.specs.declared.parts.Section.{Section}
 use Rattle.om_object.specs.declared.parts.Parts.{Parts}
 use Rattle.om_object.specs.Words.{section_of}
@@ -17,8 +17,8 @@ use Rattle.om_resolve.specs.declared.definition.Definition.TheVariants.{Missing,
 use Rattle.om_resolve.specs.Names.{object_at, names_of, definition_at}
 use Rattle.om_resolve.specs.Causes.{region_numbers}
 use Rattle.om_resolve.specs.Program.{region_of, region_at, regions_of, common_region, common_at, program_of}
-use Rattle.om_resolve.proofs.Members.{In, InJoined, in_joined, in_option}
-use Rattle.om_resolve.proofs.Pairwise.{Pairwise, pairwise_at, pairwise_append, pairwise_joined, pairwise_option}
+use Rattle.om_resolve.proofs.Members.{In, in_joined, in_option}
+use Rattle.om_resolve.proofs.Pairwise.{Pairwise, pairwise_at, pairwise_append, pairwise_joined}
 use Rattle.om_resolve.proofs.ProgramNear.{common_number}
 
 -- ---- the numbers of the sections that are regions rise

@@ -1,10 +1,10 @@
 -- Which relocation gives a word of the program of objects its role.
-use Rattle.std.proofs.Common.{◌≡◌, ◌⊎◌, inl, inr, ℕ, zero, suc, ◌+◌, ◌-◌, ◌*◌, ◌/◌, ◌%◌, ◌^◌, ◌<◌, ◌≤◌, Bool, true, false, cond, not, ◌&&◌, ◌||◌, ◌==◌, nat_lt, List, [], ◌∷◌, ◌++◌, length, Option, Some, None, refl, ap, sym, subst, ◌∙◌, arith, slice_index_or}
+use Rattle.std.proofs.Common.{◌≡◌, ◌⊎◌, inl, inr, ℕ, ◌+◌, ◌%◌, ◌^◌, ◌<◌, Bool, true, false, cond, ◌||◌, ◌==◌, List, [], ◌∷◌, ◌++◌, length, Option, Some, None, refl, ap, sym, subst, ◌∙◌, arith}
 use Rattle.std.specs.Prelude.{find, option_map, flat_map, take}
 use Rattle.std.specs.Option.{option_to_list}
 use Rattle.std.proofs.lemmas.Bool.{eqb-true}
 use Rattle.std.proofs.lemmas.Bool.Decides.{nat_tests}
-use Rattle.om_fields.specs.Places.{any_of, joined, minus_64}
+use Rattle.om_fields.specs.Places.{any_of}
 use Rattle.om_reloc.specs.declared.reloc.RelocKind.{RelocKind}
 use Rattle.om_reloc.specs.declared.reloc.RelocKind.TheVariants.{Ignore, RefLong, RefQuad, GpRel32, Literal, LitUse, GpDisp, BrAddr, Hint, Other}
 use Rattle.om_object.specs.declared.parts.Section.{Section}
@@ -14,7 +14,7 @@ use Rattle.om_object.specs.Rules.{reloc_at, four_bytes, bytes_by_kind, field_byt
 use Rattle.om_value.specs.declared.value.Place.{Place}
 use Rattle.om_value.specs.declared.value.Target.{Target}
 use Rattle.om_prog.specs.declared.item.Role.{Role}
-use Rattle.om_prog.specs.declared.item.Role.TheVariants.{Plain, Lit, GpHi, GpLo, To}
+use Rattle.om_prog.specs.declared.item.Role.TheVariants.{Lit, GpHi, GpLo, To}
 use Rattle.om_resolve.specs.Names.{object_at}
 use Rattle.om_resolve.specs.Causes.{branch_target, code_of}
 use Rattle.om_resolve.specs.Program.{place_at, role_given, literal_target, high_roles, roles_by, roles_at, roles_in}

@@ -1,19 +1,8 @@
 -- The address loads of a text name at most as many targets as 16 bits reach.
-use Rattle.std.proofs.Common.{◌≡◌, ◌⊎◌, inl, inr, ℕ, zero, suc, ◌+◌, ◌-◌, ◌*◌, ◌/◌, ◌%◌, ◌^◌, ◌<◌, ◌≤◌, Bool, true, false, cond, not, ◌&&◌, ◌||◌, ◌==◌, nat_lt, nat_le, List, [], ◌∷◌, ◌++◌, length, filter, Option, Some, None, refl, ap, sym, subst, ◌∙◌, arith}
-use Rattle.std.specs.Prelude.{ℤ, pos, option_map, option_and_then, unwrap_or, find}
-use Rattle.std.specs.Option.{option_or}
+use Rattle.std.proofs.Common.{◌≡◌, ◌⊎◌, inl, inr, ℕ, zero, suc, ◌<◌, ◌≤◌, Bool, true, false, cond, not, ◌&&◌, ◌||◌, ◌==◌, nat_lt, List, [], ◌∷◌, ◌++◌, length, filter, Option, Some, None, refl, ap, sym, ◌∙◌, arith}
 use Rattle.std.specs.List.{list_any}
-use Rattle.std.specs.Int.{w16, w64, cast_signed, cast_unsigned}
 use Rattle.std.proofs.lemmas.Bool.{eqb-true}
 use Rattle.std.proofs.lemmas.Bool.Decides.{nat_tests}
-use Rattle.om_fields.specs.Places.{minus_64}
-use Rattle.om_isa.specs.declared.instr.Instr.{Instr}
-use Rattle.om_isa.specs.declared.instr.Instr.TheVariants.{Mem, Branch, Jump, Alu, Cmov, Misc, Fnop, Halt, Callsys}
-use Rattle.om_isa.specs.declared.instr.MemOp.{MemOp}
-use Rattle.om_isa.specs.declared.instr.MemOp.TheVariants.{Lda, Ldah, Ldq}
-use Rattle.om_isa.specs.Fields.{field}
-use Rattle.om_isa.specs.Words.{memory_at, branch_at, jump_at, misc_at, move_at, operate_at, operand_at, fixed_at, instr_of}
-use Rattle.om_isa.proofs.Found.{or_some, map_some, then_some, if_some}
 use Rattle.om_value.specs.declared.value.Target.{Target}
 use Rattle.om_value.specs.declared.value.Target.TheVariants.{Num, Ptr, Code}
 use Rattle.om_value.specs.Same.{region_eq, target_eq}
@@ -194,4 +183,3 @@ few_slots f n text h = not_more f n (slots text) (all_differ [] text tt) (λ u i
     by_side : (u : Target) → ⊥ ⊎ ((i : Item) × In text i × (literal_of i ≡ Some u)) → (q : ℕ) × (q < n) × (f q ≡ u)
     by_side u (inl i) = absurd i
     by_side u (inr k) = h k.0 u k.1 k.2
-

@@ -1,16 +1,13 @@
 -- Objects that break no rule, and against which there is no cause, have a program.
-use Rattle.std.proofs.Common.{◌≡◌, ◌⊎◌, inl, inr, ℕ, zero, suc, ◌+◌, ◌*◌, ◌/◌, ◌^◌, ◌<◌, ◌≤◌, Bool, true, false, List, [], ◌∷◌, length, Option, Some, None, refl, ap, sym, subst, ◌∙◌, arith}
-use Rattle.std.specs.Prelude.{slice_get, unwrap_or}
-use Rattle.om_fields.specs.Places.{each, each_from, number_at}
+use Rattle.std.proofs.Common.{◌≡◌, inl, inr, ℕ, zero, suc, ◌+◌, ◌*◌, ◌/◌, ◌^◌, ◌<◌, ◌≤◌, List, length, Option, Some, None, refl, ap, sym, subst, ◌∙◌, arith}
+use Rattle.std.specs.Prelude.{unwrap_or}
+use Rattle.om_fields.specs.Places.{each, each_from}
 use Rattle.om_fields.proofs.Each.{each_from-length}
 use Rattle.om_isa.specs.declared.instr.Instr.TheVariants.{Halt}
-use Rattle.om_isa.specs.Words.{instr_of}
 use Rattle.om_object.specs.declared.parts.Section.{Section}
 use Rattle.om_object.specs.declared.parts.Parts.{Parts}
 use Rattle.om_object.specs.Words.{section_of}
-use Rattle.om_value.specs.declared.value.Target.{Target}
 use Rattle.om_value.specs.declared.value.Target.TheVariants.{Num}
-use Rattle.om_prog.specs.declared.item.Item.{Item}
 use Rattle.om_prog.specs.Valid.{fits, slots, literal_of, IsItem, AreItems, IsText, AreTexts, IsProgram}
 use Rattle.om_resolve.specs.Names.{object_at}
 use Rattle.om_resolve.specs.Causes.{first_cause}

@@ -1,5 +1,5 @@
 -- Objects with their names, as the code keeps them.
-use Rattle.std.specs.Prelude.{◌≡◌, ℕ, ◌<◌, ◌^◌, List, [], ◌∷◌, Vec, length, map, fold, filter, take, sum_by, Option, Some, None, option_and_then, unwrap_or, slice_get}
+use Rattle.std.specs.Prelude.{◌≡◌, ℕ, ◌<◌, ◌^◌, List, Vec, length, map, fold, filter, take, sum_by, Option, Some, None, option_and_then, unwrap_or, slice_get}
 use Rattle.om_fields.specs.Places.{each}
 use Rattle.std.proofs.Common.{Bor}
 use Rattle.indexmap.specs.IndexSet.{IndexSet}

@@ -163,7 +163,11 @@ fn program(alloc: Global, l: &Linked<'_>) -> Result<Program, NoMemory>
     }
 }
 
-/// The program of objects, which are numbered from 0 in their order, or the first cause why they are none.
+/// The program of objects, which are numbered from 0 in their order, or the first cause why they are none. Where no
+/// cause applies they have one (see `objects_make_programs`), and only want of memory can take its place; it can take
+/// the place of a cause too.
+///
+/// Takes time near-linear in the symbols, relocations, words and fields, and memory for the program and the names.
 pub fn resolve(alloc: Global, objects: &[Object]) -> Result<Program, ResolveErr>
     requires { length objects.now < 2 ^ 32 }
     ensures { Resolves objects.now result }

@@ -1,10 +1,8 @@
-use Rattle.std.proofs.Common.{◌≡◌, ℕ, ◌+◌, ◌*◌, ◌/◌, ◌^◌, ◌<◌, ◌≤◌, Bool, true, false, List, [], ◌∷◌, ◌++◌, length, map, fold, take, refl, ap, sym, subst, ◌∙◌, arith, slice_index_or, below_more}
-use Rattle.std.specs.Prelude.{Option, Some, None, slice_get, option_map, unwrap_or, is_some, sum_by, IfOk}
+use Rattle.std.proofs.Common.{◌≡◌, ℕ, ◌+◌, ◌/◌, ◌<◌, List, [], ◌∷◌, ◌++◌, length, ap, sym, subst, ◌∙◌, arith, below_more}
 use Rattle.om_fields.specs.Places.{each}
-use Rattle.om_object.specs.declared.parts.Parts.{Parts}
 use Rattle.om_object.specs.Rules.{IsObject}
 use Rattle.om_resolve.specs.Names.{object_at, no_parts}
-use Rattle.om_resolve.specs.Causes.{text_size, text_words}
+use Rattle.om_resolve.specs.Causes.{text_words}
 use Rattle.om_resolve.specs.Linked.{words_before}
 use Rattle.om_resolve.proofs.Steps.{item_any, each_more, sum_more}
 use Rattle.om_resolve.proofs.prefixes.text_starts.Goals as goal

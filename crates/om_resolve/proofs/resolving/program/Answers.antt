@@ -1,11 +1,5 @@
-use Rattle.std.proofs.Common.{◌≡◌, ℕ, ◌+◌, ◌*◌, ◌/◌, ◌^◌, ◌<◌, ◌≤◌, Bool, true, false, List, [], ◌∷◌, ◌++◌, length, map, fold, take, refl, ap, sym, subst, ◌∙◌, arith, slice_index_or}
-use Rattle.std.specs.Prelude.{Option, Some, None, slice_get, option_map, unwrap_or, is_some, sum_by, IfOk}
-use Rattle.om_value.specs.declared.value.Place.{Place}
-use Rattle.om_prog.specs.declared.item.Item.{Item}
-use Rattle.om_prog.specs.declared.region.RegionInit.{RegionInit}
-use Rattle.om_prog.specs.View.{ProgramView, items_lists}
-use Rattle.om_resolve.specs.Names.{start_name, definition_of}
-use Rattle.om_resolve.specs.Program.{program_of, entry_by}
+use Rattle.std.proofs.Common.{sym, subst, ◌∙◌}
+use Rattle.om_prog.specs.View.{items_lists}
 use Rattle.om_prog.specs.Valid.{IsProgram}
 use Rattle.om_resolve.proofs.Whole.{same_program}
 use Rattle.om_resolve.proofs.ProgramValid.{objects_make_programs}
