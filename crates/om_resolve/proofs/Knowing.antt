@@ -1,12 +1,12 @@
 -- What the symbols of a name say, taken in one after the other, is what they say together.
-use Rattle.std.proofs.Common.{◌≡◌, ℕ, Bool, true, false, ◌&&◌, ◌||◌, ◌==◌, List, [], ◌∷◌, length, map, fold, filter, max, refl, ap, sym, ◌∙◌, arith, cond}
+use Rattle.std.proofs.Common.{◌≡◌, ℕ, Bool, true, false, List, [], ◌∷◌, map, fold, filter, max, refl, ap, ◌∙◌, arith, cond}
 use Rattle.std.proofs.Common.{◌⊎◌, inl, inr}
-use Rattle.std.specs.Prelude.{Option, Some, None, unwrap_or, is_none, if◌then◌else◌, slice_get, option_map}
+use Rattle.std.specs.Prelude.{Option, Some, None, unwrap_or, if◌then◌else◌, slice_get, option_map}
 use Rattle.std.proofs.lemmas.Bool.Decides.{nat_tests}
 use Rattle.om_symtab.specs.Classes.{section_of_class, is_common, is_defining}
 use Rattle.om_object.specs.declared.parts.Parts.{Parts}
 use Rattle.om_resolve.specs.declared.definition.Definition.{Definition}
-use Rattle.om_resolve.specs.declared.definition.Definition.TheVariants.{Missing, Absolute, InSection, AsCommon}
+use Rattle.om_resolve.specs.declared.definition.Definition.TheVariants.{Missing}
 use Rattle.om_resolve.specs.declared.definition.Known.{Known}
 use Rattle.om_resolve.specs.Names.{Seen, defines, asks_common, greatest, defined_by, by_symbols}
 use Rattle.om_resolve.specs.Known.{note, note_defined, unknown, grown, definition_by}

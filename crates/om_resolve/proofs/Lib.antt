@@ -17,3 +17,13 @@ pub mod ProgramEntry
 pub mod ProgramBytes
 pub mod ProgramFields
 pub mod ProgramWidths
+pub mod Uncaused
+pub mod ProgramNear
+pub mod ProgramApart
+pub mod ProgramOnce
+pub mod ProgramRoles
+pub mod ProgramSlots
+pub mod SlotReach
+pub mod ProgramLoads
+pub mod ProgramFits
+pub mod ProgramValid

@@ -1,20 +1,18 @@
 -- What names and symbols stand for, as the code keeps it.
-use Rattle.std.proofs.Common.{◌≡◌, ℕ, zero, suc, ◌+◌, ◌<◌, ◌≤◌, Bool, true, false, ◌&&◌, ◌||◌, List, [], ◌∷◌, ◌++◌, length, map, fold, filter, max, refl, ap, sym, ◌∙◌, arith, bytes_eq, cond, slice_index_or, slice_set, not}
-use Rattle.std.specs.Prelude.{Option, Some, None, slice_get, option_map, option_and_then, unwrap_or, is_none, replicate, Vec, nat_lt, if◌then◌else◌}
-use Rattle.std.specs.List.{position_or_len}
+use Rattle.std.proofs.Common.{◌≡◌, ℕ, zero, suc, ◌+◌, ◌<◌, ◌≤◌, Bool, true, false, ◌||◌, List, [], ◌∷◌, ◌++◌, length, map, fold, filter, refl, ap, sym, ◌∙◌, arith, bytes_eq, cond, slice_index_or, slice_set, not}
+use Rattle.std.specs.Prelude.{Option, Some, None, slice_get, option_map, option_and_then, unwrap_or, replicate, Vec, nat_lt, if◌then◌else◌}
 use Rattle.std.proofs.lemmas.Option.{slice_get-map, slice_get_within}
 use Rattle.std.proofs.lemmas.Bool.Decides.{nat_tests}
 use Rattle.std.proofs.lemmas.List.{length-map}
 use Rattle.om_fields.specs.Places.{any_of, joined, joined_from}
 use Rattle.om_symtab.specs.declared.symbol.ExtSym.{ExtSym}
-use Rattle.om_symtab.specs.Classes.{section_of_class, is_common, is_defining}
 use Rattle.om_object.specs.declared.parts.Parts.{Parts}
 use Rattle.om_resolve.specs.declared.definition.Definition.{Definition}
 use Rattle.om_resolve.specs.declared.definition.Definition.TheVariants.{Missing, Absolute, InSection, AsCommon}
 use Rattle.om_resolve.specs.declared.definition.Known.{Known}
 use Rattle.om_resolve.specs.declared.linked.Linked.{Linked}
-use Rattle.om_resolve.specs.Names.{Name, Seen, start_name, names_of, number_in, number_of, object_at, defines, asks_common, is_named, symbols_seen, seen_in, defining, common_sizes, greatest, defined_by, by_symbols, definition_of, definition_by_name, definition_at, meaning_by, meaning_of}
-use Rattle.om_resolve.specs.Known.{note, noted, noted_at, unknown, grown, definition_by}
+use Rattle.om_resolve.specs.Names.{Name, Seen, start_name, names_of, number_in, number_of, object_at, is_named, symbols_seen, seen_in, defining, common_sizes, greatest, by_symbols, definition_of, definition_by_name, definition_at, meaning_by, meaning_of}
+use Rattle.om_resolve.specs.Known.{note, noted, unknown, definition_by}
 use Rattle.om_resolve.specs.Linked.{IsLinked, known_of, known_at, number_at, numbers_of, meaning_by_number, meaning_at, lists_in}
 use Rattle.om_resolve.proofs.Naming.{AreDistinct, names_distinct, name_there, place_there, number_there, same_name, start_first}
 use Rattle.om_resolve.proofs.Knowing.{with_none, known_all, defined_all}

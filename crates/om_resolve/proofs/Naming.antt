@@ -1,6 +1,6 @@
 -- Names in first-seen order: each stands once, and each symbol's is there.
 use Rattle.std.proofs.Common.{◌≡◌, ℕ, zero, suc, ◌+◌, ◌<◌, ◌≤◌, Bool, true, false, ◌||◌, List, [], ◌∷◌, ◌++◌, length, map, fold, drop, refl, ap, sym, ◌∙◌, arith, Bor, bytes_eq, cond, slice_index_or, not}
-use Rattle.std.specs.Prelude.{Option, Some, None, slice_get, codes}
+use Rattle.std.specs.Prelude.{Some, slice_get}
 use native.Mathlib.Decide.{dec_le}
 use Rattle.std.specs.List.{position_or_len}
 use Rattle.std.proofs.lemmas.Slice.Eq.{bytes_eq-Decides}
@@ -9,9 +9,8 @@ use Rattle.indexmap.specs.IndexSet.{insert_key}
 use Rattle.om_fields.specs.Places.{any_of, joined, joined_from}
 use Rattle.om_symtab.specs.declared.symbol.ExtSym.{ExtSym}
 use Rattle.om_object.specs.declared.parts.Parts.{Parts}
-use Rattle.om_resolve.specs.Names.{Name, with_name, start_name, symbol_names, names_of, object_at, number_in, no_parts}
+use Rattle.om_resolve.specs.Names.{Name, with_name, start_name, symbol_names, names_of, object_at, number_in}
 use Rattle.om_resolve.specs.Linked.{bytes_of}
-use Rattle.om_resolve.proofs.Steps.{fold_append}
 
 any-mapped : (n : Name) (ks : List (Bor Name)) → any_of (λ k. bytes_eq n k.now) ks ≡ any_of (bytes_eq n) (map bytes_of ks)
 any-mapped n [] = refl

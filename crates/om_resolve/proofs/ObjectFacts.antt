@@ -1,7 +1,7 @@
 -- What parts that break no rule have, section by section and relocation by relocation.
-use Rattle.std.proofs.Common.{◌≡◌, ◌⊎◌, inl, inr, ℕ, zero, suc, ◌+◌, ◌*◌, ◌/◌, ◌<◌, Bool, true, false, not, ◌&&◌, ◌||◌, ◌==◌, List, [], ◌∷◌, ◌++◌, length, refl, ap, sym, ◌∙◌, arith}
+use Rattle.std.proofs.Common.{◌≡◌, ℕ, zero, suc, ◌+◌, ◌*◌, ◌/◌, ◌<◌, Bool, true, false, not, ◌&&◌, ◌||◌, ◌==◌, List, [], ◌∷◌, ◌++◌, length, refl, ap, ◌∙◌, arith}
 use Rattle.std.specs.Prelude.{is_none}
-use Rattle.om_fields.specs.Places.{put_if, picked_from, picked, joined_from, joined}
+use Rattle.om_fields.specs.Places.{put_if, picked_from, picked, joined_from}
 use Rattle.om_fields.specs.Sections.{name_of_number}
 use Rattle.om_fields.specs.Extents.{is_misplaced}
 use Rattle.om_object.specs.declared.parts.Section.{Section}
@@ -9,7 +9,7 @@ use Rattle.om_object.specs.declared.parts.Parts.{Parts}
 use Rattle.om_object.specs.declared.rules.RelocRule.{RelocRule}
 use Rattle.om_object.specs.declared.rules.RelocRule.TheVariants.{Inside, Aligned, Named, Targeted, Paired, Slotted, Branching, Known, Placed, Natural}
 use Rattle.om_object.specs.declared.rules.SymbolRule.TheVariants.{Misvalued}
-use Rattle.om_object.specs.Rules.{Spot, AtSection, AtSymbol, AtReloc, AtWord, section_at, symbol_at, reloc_at, section_extent, is_misfilled, is_uneven, is_shared, is_astray, is_unreadable, breaks_at, symbol_breaks, entries_where, relocs_where, words_where, IsObject}
+use Rattle.om_object.specs.Rules.{AtSection, AtSymbol, AtReloc, AtWord, section_at, symbol_at, section_extent, is_misfilled, is_uneven, is_shared, is_astray, is_unreadable, breaks_at, symbol_breaks, entries_where, relocs_where, words_where, IsObject}
 
 -- ---- empty lists
 

@@ -1,9 +1,8 @@
 -- Sections by their numbers, and places of names among keys.
-use Rattle.std.proofs.Common.{◌≡◌, ℕ, zero, suc, ◌+◌, ◌<◌, ◌≤◌, Bool, true, false, ◌==◌, List, [], ◌∷◌, length, map, refl, ap, sym, ◌∙◌, arith, Bor, bytes_eq, cond, not}
+use Rattle.std.proofs.Common.{◌≡◌, ℕ, suc, ◌+◌, ◌≤◌, Bool, true, false, ◌==◌, List, [], ◌∷◌, length, map, refl, ap, sym, ◌∙◌, arith, Bor, bytes_eq, cond, not}
 use Rattle.std.specs.Prelude.{Option, Some, None, Result, Ok, Err, IfOk, find, nat_lt, if◌then◌else◌}
 use Rattle.std.specs.List.{position, position_or_len}
 use Rattle.std.proofs.lemmas.Bool.Decides.{nat_tests}
-use Rattle.std.proofs.lemmas.List.{length-map}
 use Rattle.om_object.specs.declared.parts.Section.{Section}
 use Rattle.om_object.specs.declared.parts.Parts.{Parts}
 use Rattle.om_object.specs.Words.{section_of}

@@ -1,8 +1,8 @@
 -- No byte of a section is in the fields of two relocations.
-use Rattle.std.proofs.Common.{◌≡◌, ◌⊎◌, inl, inr, ℕ, zero, suc, ◌+◌, ◌-◌, ◌*◌, ◌/◌, ◌%◌, ◌^◌, ◌<◌, ◌≤◌, Bool, true, false, cond, not, ◌&&◌, ◌||◌, ◌==◌, nat_lt, nat_le, List, [], ◌∷◌, ◌++◌, length, take, Option, Some, None, refl, ap, sym, subst, ◌∙◌, arith, slice_index_or}
+use Rattle.std.proofs.Common.{◌≡◌, inl, inr, ℕ, zero, suc, ◌+◌, ◌-◌, ◌%◌, ◌^◌, ◌<◌, ◌≤◌, Bool, true, false, ◌||◌, ◌==◌, nat_lt, List, [], ◌∷◌, ◌++◌, length, take, refl, ap, sym, subst, ◌∙◌, arith, slice_index_or}
 use Rattle.std.specs.Prelude.{flat_map}
 use Rattle.std.proofs.lemmas.Bool.Decides.{nat_tests}
-use Rattle.om_fields.specs.Places.{any_of, each, minus_64}
+use Rattle.om_fields.specs.Places.{any_of}
 use Rattle.om_reloc.specs.declared.reloc.Reloc.{Reloc}
 use Rattle.om_reloc.specs.declared.reloc.RelocKind.{RelocKind}
 use Rattle.om_reloc.specs.declared.reloc.RelocKind.TheVariants.{RefQuad, GpRel32, Literal, GpDisp, BrAddr}
@@ -31,7 +31,7 @@ any_more x y seen h = by_test (y == x)
     by_test false = h
 
 -- what was seen is not among bytes that do not repeat
-not_seen : (seen bs : List ℕ) (x : ℕ) → repeats seen bs ≡ false → any_of (λ c. c == x) seen ≡ true → In bs x → ⊥
+pub not_seen : (seen bs : List ℕ) (x : ℕ) → repeats seen bs ≡ false → any_of (λ c. c == x) seen ≡ true → In bs x → ⊥
 not_seen seen [] x h s i = i
 not_seen seen (b ∷ bs) x h s (inl e) =
     let k = (or_false (any_of (λ c. c == b) seen) (repeats (b ∷ seen) bs) h).0 in

@@ -1,9 +1,7 @@
 -- Where the program of objects starts, and how long its texts are, where there is no cause against it.
-use Rattle.std.proofs.Common.{◌≡◌, ◌⊎◌, inl, inr, ℕ, zero, suc, ◌+◌, ◌*◌, ◌/◌, ◌^◌, ◌<◌, ◌≤◌, Bool, true, false, cond, ◌==◌, nat_lt, List, [], ◌∷◌, length, Option, Some, None, refl, ap, sym, subst, ◌∙◌, arith, slice_index_or}
-use Rattle.std.specs.Prelude.{slice_get}
+use Rattle.std.proofs.Common.{◌≡◌, ℕ, zero, suc, ◌/◌, ◌^◌, ◌<◌, ◌≤◌, Bool, true, false, cond, nat_lt, List, [], ◌∷◌, length, Option, Some, None, refl, arith, slice_index_or}
 use Rattle.std.proofs.lemmas.Bool.{eqb-true}
 use Rattle.std.proofs.lemmas.Bool.Decides.{nat_tests}
-use Rattle.om_fields.specs.Places.{each}
 use Rattle.om_fields.proofs.Each.{each_from-length}
 use Rattle.om_object.specs.declared.parts.Section.{Section}
 use Rattle.om_object.specs.declared.parts.Parts.{Parts}
@@ -18,7 +16,7 @@ use Rattle.om_resolve.specs.declared.definition.Definition.TheVariants.{Missing,
 use Rattle.om_resolve.specs.declared.finding.Scan.TheVariants.{Names, Targets, Reach}
 use Rattle.om_resolve.specs.Names.{object_at, no_parts, start_name, defining, definition_of}
 use Rattle.om_resolve.specs.Causes.{first_given, size_of_text, text_size, is_in_text, first_object, duplicate, no_start, scanned, over, many_objects, long_text, long_object, much_data, many_symbols, name_causes, limit_causes, first_cause}
-use Rattle.om_resolve.specs.Program.{items_of, text_of, item_of, entry_by, place_at, program_of}
+use Rattle.om_resolve.specs.Program.{items_of, text_of, item_of, entry_by, program_of}
 use Rattle.om_resolve.proofs.ProgramWords.{word_there}
 use Rattle.om_resolve.proofs.ProgramNames.{definition_in_place}
 

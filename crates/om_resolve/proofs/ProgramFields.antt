@@ -1,36 +1,28 @@
 -- The initial fields of the program of objects.
-use Rattle.std.proofs.Common.{◌≡◌, ◌⊎◌, inl, inr, ℕ, zero, suc, ◌+◌, ◌*◌, ◌/◌, ◌%◌, ◌^◌, ◌<◌, ◌≤◌, Bool, true, false, cond, not, ◌&&◌, ◌||◌, ◌==◌, nat_lt, nat_le, List, [], ◌∷◌, ◌++◌, length, fold, Option, Some, None, refl, ap, sym, subst, ◌∙◌, arith, slice_index_or}
-use Rattle.std.specs.Prelude.{is_some, is_none, option_map}
+use Rattle.std.proofs.Common.{◌≡◌, ℕ, ◌+◌, ◌%◌, ◌<◌, ◌≤◌, false, not, ◌==◌, nat_lt, List, length, Option, Some, None, refl, ap, sym, subst, ◌∙◌, arith}
+use Rattle.std.specs.Prelude.{is_none, option_map}
 use Rattle.std.specs.Option.{option_to_list}
-use Rattle.std.proofs.lemmas.Bool.{eqb-true, eqb-false}
+use Rattle.std.proofs.lemmas.Bool.{eqb-true}
 use Rattle.std.proofs.lemmas.Bool.Decides.{nat_tests}
-use Rattle.om_fields.specs.Places.{joined, joined_from, each, each_from, round_up, minus_64, number_at}
-use Rattle.om_fields.specs.Sections.{name_of_number, is_bss}
-use Rattle.om_reloc.specs.declared.reloc.Reloc.{Reloc}
+use Rattle.om_fields.specs.Sections.{name_of_number}
 use Rattle.om_reloc.specs.declared.reloc.RelocKind.{RelocKind}
 use Rattle.om_reloc.specs.declared.reloc.RelocKind.TheVariants.{Ignore, RefLong, RefQuad, GpRel32, Literal, LitUse, GpDisp, BrAddr, Hint, Other}
 use Rattle.om_object.specs.declared.parts.Section.{Section}
 use Rattle.om_object.specs.declared.parts.Parts.{Parts}
 use Rattle.om_object.specs.declared.rules.RelocRule.{RelocRule}
-use Rattle.om_object.specs.declared.rules.RelocRule.TheVariants.{Inside as StaysInside, Named, Targeted, Placed, Natural}
+use Rattle.om_object.specs.declared.rules.RelocRule.TheVariants.{Inside as StaysInside, Natural}
 use Rattle.om_object.specs.Words.{section_of, offset_of}
-use Rattle.om_object.specs.Aims.{Aim, Number, Inside, Symbol, inside, local_aim, quad_aim}
-use Rattle.om_object.specs.Rules.{section_at, reloc_at, is_ignore, is_unnatural, field_width, bytes_wanted, breaks, breaks_at, is_shared, names_no_section, IsObject}
+use Rattle.om_object.specs.Rules.{reloc_at, is_ignore, is_unnatural, field_width, bytes_wanted, breaks, breaks_at, is_shared, IsObject}
 use Rattle.om_value.specs.declared.value.Target.{Target}
-use Rattle.om_value.specs.declared.value.Target.TheVariants as target
 use Rattle.om_value.specs.declared.value.Value.TheVariants.{GpOff}
 use Rattle.om_value.specs.Lift.{value_of}
 use Rattle.om_prog.specs.declared.item.Field.{Field}
-use Rattle.om_prog.specs.View.{ProgramView}
-use Rattle.om_prog.specs.Valid.{is_target, width_of}
 use Rattle.om_resolve.specs.Names.{object_at}
-use Rattle.om_resolve.specs.Targets.{target_of}
 use Rattle.om_resolve.specs.Causes.{quad_target, gp_target}
-use Rattle.om_resolve.specs.Program.{field_by, fields_of, program_of}
+use Rattle.om_resolve.specs.Program.{field_by, fields_of}
 use Rattle.om_resolve.proofs.Members.{In, in_joined, in_given}
-use Rattle.om_resolve.proofs.ObjectFacts.{or_false, and_false, not_true, keeps_rule, is_unshared, is_named}
+use Rattle.om_resolve.proofs.ObjectFacts.{and_false, not_true, keeps_rule, is_unshared, is_named}
 use Rattle.om_resolve.proofs.ProgramWords.{found_at, filled_is}
-use Rattle.om_resolve.proofs.ProgramTargets.{AimsElsewhere, aim_is_target}
 
 -- ---- a section of an object that breaks no rule
 

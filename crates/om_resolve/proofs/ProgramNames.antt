@@ -1,23 +1,20 @@
 -- What definitions of names are, in objects that break no rule.
-use Rattle.std.proofs.Common.{◌≡◌, ◌⊎◌, inl, inr, ℕ, zero, suc, ◌+◌, ◌*◌, ◌/◌, ◌%◌, ◌<◌, ◌≤◌, Bool, true, false, cond, not, ◌&&◌, ◌||◌, ◌==◌, nat_lt, nat_le, List, [], ◌∷◌, ◌++◌, length, map, filter, Option, Some, None, refl, ap, sym, subst, ◌∙◌, arith, slice_index_or}
-use Rattle.std.specs.Prelude.{is_some, is_none, slice_get, find, option_map}
+use Rattle.std.proofs.Common.{◌≡◌, inl, inr, ℕ, suc, ◌<◌, ◌≤◌, Bool, true, false, cond, not, ◌&&◌, ◌==◌, nat_lt, List, [], ◌∷◌, length, map, filter, Option, Some, None, refl, ap, sym, subst, ◌∙◌, arith, slice_index_or}
+use Rattle.std.specs.Prelude.{find, option_map}
 use Rattle.std.proofs.lemmas.Bool.Decides.{nat_tests}
-use Rattle.om_fields.specs.Places.{any_of, joined, minus_64}
+use Rattle.om_fields.specs.Places.{minus_64}
 use Rattle.om_symtab.specs.declared.symbol.ExtSym.{ExtSym}
-use Rattle.om_symtab.specs.Classes.{section_of_class, address_classes, is_defining}
+use Rattle.om_symtab.specs.Classes.{section_of_class, address_classes}
 use Rattle.om_object.specs.declared.parts.Section.{Section}
 use Rattle.om_object.specs.declared.parts.Parts.{Parts}
 use Rattle.om_object.specs.Words.{section_of, is_word}
 use Rattle.om_object.specs.Rules.{symbol_at, no_symbol, symbol_breaks, is_no_place, is_misplaced_in, IsObject}
 use Rattle.om_object.specs.declared.rules.SymbolRule.TheVariants.{Misvalued}
-use Rattle.om_resolve.specs.declared.definition.Definition.{Definition}
-use Rattle.om_resolve.specs.declared.definition.Definition.TheVariants.{Missing, Absolute, InSection, AsCommon}
-use Rattle.om_resolve.specs.Names.{Name, Seen, object_at, names_of, number_of, symbols_seen, seen_in, is_named, defines, defining, common_sizes, greatest, offset_in, placed_by, defined_by, by_symbols, definition_of, definition_at, definition_by_name, meaning_by, meaning_of}
-use Rattle.om_resolve.proofs.Steps.{get_here}
-use Rattle.om_resolve.proofs.Members.{In, InJoined, in_joined, got_in, found_in}
+use Rattle.om_resolve.specs.declared.definition.Definition.TheVariants.{InSection}
+use Rattle.om_resolve.specs.Names.{Name, Seen, object_at, number_of, symbols_seen, seen_in, is_named, defines, defining, common_sizes, greatest, offset_in, placed_by, by_symbols, definition_of}
+use Rattle.om_resolve.proofs.Members.{In, in_joined, found_in}
 use Rattle.om_resolve.proofs.ProgramWords.{found_at}
 use Rattle.om_resolve.proofs.ObjectFacts.{or_false, is_valued}
-use Rattle.om_resolve.proofs.Naming.{names_distinct, number_there}
 
 in_filtered : {X : Type 0} (test : X → Bool) (xs : List X) (x : X) → In (filter test xs) x → In xs x
 in_filtered test [] x h = absurd h
@@ -71,7 +68,7 @@ placed_in objects s (Some m) obj n off e =
     let c : offset_in (section_of (object_at objects s.obj) m) s.symbol.value ≡ off = cc in
     (ap (λ k. Some k) b, a, ap (λ k. offset_in (section_of (object_at objects s.obj) k) s.symbol.value) (sym b) ∙ c)
 
-not_place : (p : Parts) (value n : ℕ) (o : Option Section) → section_of p n ≡ o → is_no_place p value o ≡ false → (s : Section) × (o ≡ Some s) × (nat_lt s.size (minus_64 value s.addr) ≡ false) × ((s.number ≡ 1) → is_word p (minus_64 value s.addr) ≡ true)
+pub not_place : (p : Parts) (value n : ℕ) (o : Option Section) → section_of p n ≡ o → is_no_place p value o ≡ false → (s : Section) × (o ≡ Some s) × (nat_lt s.size (minus_64 value s.addr) ≡ false) × ((s.number ≡ 1) → is_word p (minus_64 value s.addr) ≡ true)
 not_place p value n None e h = cc
 not_place p value n (Some s) e h =
     let b = or_false (nat_lt s.size (minus_64 value s.addr)) ((s.number == 1) && not (is_word p (minus_64 value s.addr))) h in

@@ -1,6 +1,5 @@
 -- The regions of the program of objects.
-use Rattle.std.proofs.Common.{◌≡◌, ◌⊎◌, inl, inr, ℕ, zero, suc, ◌+◌, ◌*◌, ◌/◌, ◌%◌, ◌<◌, ◌≤◌, Bool, true, false, cond, ◌&&◌, ◌==◌, nat_lt, nat_le, List, [], ◌∷◌, ◌++◌, length, Option, Some, None, refl, ap, sym, subst, ◌∙◌, arith, slice_index_or}
-use Rattle.std.specs.Prelude.{is_some, find, slice_get}
+use Rattle.std.proofs.Common.{◌≡◌, ◌⊎◌, inl, inr, ℕ, ◌<◌, Bool, true, false, ◌&&◌, ◌==◌, List, [], length, Some, refl, sym, subst, arith, slice_index_or}
 use Rattle.std.proofs.lemmas.Bool.{eqb-true}
 use Rattle.std.proofs.lemmas.Bool.Decides.{nat_tests}
 use Rattle.om_fields.specs.Places.{joined, round_up}
@@ -12,12 +11,10 @@ use Rattle.om_value.specs.declared.value.Region.TheVariants.{Sec, Common, Stack,
 use Rattle.om_value.specs.Same.{region_eq}
 use Rattle.om_prog.specs.declared.region.RegionInit.{RegionInit}
 use Rattle.om_prog.specs.View.{init_of}
-use Rattle.om_prog.specs.Valid.{has_region, is_up_to}
 use Rattle.om_resolve.specs.declared.definition.Definition.{Definition}
 use Rattle.om_resolve.specs.declared.definition.Definition.TheVariants.{Missing, Absolute, InSection, AsCommon}
 use Rattle.om_resolve.specs.Names.{object_at, names_of, definition_at}
-use Rattle.om_resolve.specs.Targets.{section_size, common_size}
-use Rattle.om_resolve.specs.Causes.{region_numbers, region_size}
+use Rattle.om_resolve.specs.Causes.{region_numbers}
 use Rattle.om_resolve.specs.Program.{region_of, region_at, regions_of, common_region, common_at, program_of}
 use Rattle.om_resolve.proofs.Members.{In, in_front, in_back, in_either, in_joined, joined_in, in_option, option_in, found_in, something_found}
 

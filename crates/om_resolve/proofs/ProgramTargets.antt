@@ -1,8 +1,7 @@
 -- What fields, loads and branches of objects aim at is in their program.
-use Rattle.std.proofs.Common.{◌≡◌, ◌⊎◌, inl, inr, ℕ, zero, suc, ◌+◌, ◌*◌, ◌/◌, ◌%◌, ◌^◌, ◌<◌, ◌≤◌, Bool, true, false, cond, not, ◌&&◌, ◌||◌, ◌==◌, nat_lt, nat_le, List, [], ◌∷◌, ◌++◌, length, Option, Some, None, refl, ap, sym, subst, ◌∙◌, arith, slice_index_or}
+use Rattle.std.proofs.Common.{◌≡◌, inl, inr, ℕ, ◌+◌, ◌%◌, ◌^◌, ◌<◌, Bool, true, false, cond, ◌==◌, List, [], length, Option, Some, None, refl, ap, sym, subst, ◌∙◌, arith, slice_index_or}
 use Rattle.std.specs.Prelude.{is_some, is_none, slice_get, find, option_map}
 use Rattle.std.proofs.lemmas.Bool.{eqb-true, eqb-false}
-use Rattle.std.proofs.lemmas.Bool.Decides.{nat_tests}
 use Rattle.std.proofs.lemmas.Option.{slice_get_within}
 use Rattle.om_fields.specs.Places.{round_up}
 use Rattle.om_fields.specs.Sections.{name_of_number, loaded_sections}
@@ -12,12 +11,9 @@ use Rattle.om_object.specs.declared.parts.Parts.{Parts}
 use Rattle.om_object.specs.Words.{section_of, is_word}
 use Rattle.om_object.specs.Aims.{Aim, Number, Inside, Symbol}
 use Rattle.om_object.specs.Rules.{IsObject}
-use Rattle.om_value.specs.declared.value.Region.{Region}
 use Rattle.om_value.specs.declared.value.Region.TheVariants.{Sec, Common}
 use Rattle.om_value.specs.declared.value.Target.{Target}
 use Rattle.om_value.specs.declared.value.Target.TheVariants.{Num, Ptr, Code}
-use Rattle.om_prog.specs.declared.region.RegionInit.{RegionInit}
-use Rattle.om_prog.specs.View.{init_of, is_word as is_program_word}
 use Rattle.om_prog.specs.Valid.{has_region, is_target}
 use Rattle.om_resolve.specs.declared.definition.Definition.{Definition}
 use Rattle.om_resolve.specs.declared.definition.Definition.TheVariants.{Missing, Absolute, InSection, AsCommon}
@@ -29,7 +25,7 @@ use Rattle.om_resolve.proofs.Members.{In, found_in}
 use Rattle.om_resolve.proofs.ObjectFacts.{is_named}
 use Rattle.om_resolve.proofs.ProgramWords.{found_at, word_there}
 use Rattle.om_resolve.proofs.ProgramRegions.{section_there, common_there, region_found}
-use Rattle.om_resolve.proofs.ProgramNames.{InPlace, definition_in_place}
+use Rattle.om_resolve.proofs.ProgramNames.{definition_in_place}
 use Rattle.om_resolve.proofs.Naming.{name_there, place_there}
 use Rattle.om_resolve.proofs.Meanings.{definition_of_there}
 

@@ -1,25 +1,22 @@
 -- The widths of the fields of the program of objects.
-use Rattle.std.proofs.Common.{◌≡◌, ℕ, zero, suc, ◌+◌, ◌*◌, ◌%◌, ◌^◌, ◌<◌, ◌≤◌, Bool, true, false, cond, not, ◌&&◌, ◌||◌, ◌==◌, nat_lt, nat_le, List, [], ◌∷◌, length, Option, Some, None, refl, ap, sym, subst, ◌∙◌, arith, slice_index_or}
-use Rattle.std.specs.Prelude.{is_some, is_none, slice_get, option_map}
-use Rattle.std.proofs.lemmas.Bool.{eqb-true, eqb-false}
+use Rattle.std.proofs.Common.{◌≡◌, ℕ, ◌<◌, Bool, true, false, cond, not, ◌||◌, ◌==◌, List, length, Option, Some, None, refl, ap, sym, ◌∙◌}
+use Rattle.std.specs.Prelude.{is_none, slice_get}
+use Rattle.std.proofs.lemmas.Bool.{eqb-false}
 use Rattle.om_fields.specs.Places.{number_at}
 use Rattle.om_reloc.specs.declared.reloc.Reloc.{Reloc}
-use Rattle.om_reloc.specs.declared.reloc.RelocKind.{RelocKind}
-use Rattle.om_reloc.specs.declared.reloc.RelocKind.TheVariants.{RefQuad, GpRel32}
+use Rattle.om_reloc.specs.declared.reloc.RelocKind.TheVariants.{RefQuad}
 use Rattle.om_object.specs.declared.parts.Section.{Section}
 use Rattle.om_object.specs.declared.parts.Parts.{Parts}
 use Rattle.om_object.specs.declared.rules.RelocRule.TheVariants.{Named}
 use Rattle.om_object.specs.Words.{section_of, offset_of}
-use Rattle.om_object.specs.Aims.{Aim, Number, Inside, Symbol, inside, local_aim, quad_aim}
+use Rattle.om_object.specs.Aims.{Number, Symbol, inside, local_aim, quad_aim}
 use Rattle.om_object.specs.Rules.{reloc_at, has_target, names_no_section, names_nothing, IsObject}
 use Rattle.om_value.specs.declared.value.Target.{Target}
 use Rattle.om_value.specs.declared.value.Target.TheVariants.{Num, Ptr, Code}
 use Rattle.om_value.specs.Lift.{value_of}
-use Rattle.om_prog.specs.declared.item.Field.{Field}
 use Rattle.om_prog.specs.View.{ProgramView}
 use Rattle.om_prog.specs.Valid.{is_target, width_of}
 use Rattle.om_resolve.specs.Names.{object_at}
-use Rattle.om_resolve.specs.Targets.{target_of}
 use Rattle.om_resolve.specs.Causes.{quad_target}
 use Rattle.om_resolve.specs.Program.{program_of}
 use Rattle.om_resolve.proofs.ObjectFacts.{or_false, and_false}

@@ -1,5 +1,5 @@
 -- Which places are words of the program of objects.
-use Rattle.std.proofs.Common.{◌≡◌, ◌⊎◌, inl, inr, ℕ, zero, suc, ◌+◌, ◌*◌, ◌/◌, ◌%◌, ◌<◌, ◌≤◌, Bool, true, false, cond, not, ◌&&◌, ◌||◌, ◌==◌, nat_lt, nat_le, List, [], ◌∷◌, length, Option, Some, None, refl, ap, sym, subst, ◌∙◌, arith, slice_index_or}
+use Rattle.std.proofs.Common.{◌≡◌, ℕ, zero, suc, ◌+◌, ◌/◌, ◌%◌, ◌<◌, ◌≤◌, Bool, true, false, cond, not, ◌&&◌, ◌||◌, ◌==◌, nat_lt, List, [], ◌∷◌, length, Option, Some, None, refl, ap, sym, subst, ◌∙◌, arith, slice_index_or}
 use Rattle.std.specs.Prelude.{is_some, find, slice_get, option_and_then}
 use Rattle.std.proofs.lemmas.Bool.{eqb-true, ltb-true}
 use Rattle.std.proofs.lemmas.Bool.Decides.{nat_tests}
@@ -8,12 +8,10 @@ use Rattle.om_fields.specs.Sections.{is_bss}
 use Rattle.om_object.specs.declared.parts.Section.{Section}
 use Rattle.om_object.specs.declared.parts.Parts.{Parts}
 use Rattle.om_object.specs.Words.{section_of, word_in, is_word}
-use Rattle.om_object.specs.Rules.{no_section, section_at, bytes_wanted, is_misfilled, is_uneven, IsObject}
-use Rattle.om_prog.specs.declared.item.Item.{Item}
+use Rattle.om_object.specs.Rules.{no_section, section_at, bytes_wanted, is_uneven, IsObject}
 use Rattle.om_prog.specs.View.{item_at, is_word as is_program_word}
-use Rattle.om_resolve.specs.Names.{object_at, no_parts}
+use Rattle.om_resolve.specs.Names.{object_at}
 use Rattle.om_resolve.specs.Program.{place_at, item_of, items_of, text_of, program_of}
-use Rattle.om_resolve.proofs.Steps.{get_here}
 use Rattle.om_resolve.proofs.ObjectFacts.{or_false, and_false, not_true, is_filled, is_even}
 
 -- ---- lists by index

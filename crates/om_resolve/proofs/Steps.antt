@@ -1,6 +1,6 @@
 -- One more item of a list.
-use Rattle.std.proofs.Common.{◌≡◌, ℕ, zero, suc, ◌+◌, ◌<◌, ◌≤◌, List, [], ◌∷◌, ◌++◌, length, map, take, fold, refl, ap, sym, ◌∙◌, arith, slice_index_or}
-use Rattle.std.specs.Prelude.{sum_by, Vec, Option, Some, None, slice_get}
+use Rattle.std.proofs.Common.{◌≡◌, ℕ, zero, suc, ◌+◌, ◌<◌, ◌≤◌, List, [], ◌∷◌, ◌++◌, length, map, take, fold, refl, ap, ◌∙◌, arith, slice_index_or}
+use Rattle.std.specs.Prelude.{sum_by, Vec, Some, None, slice_get}
 use Rattle.om_fields.specs.Places.{each, joined}
 use Rattle.om_fields.proofs.Each.{each-snoc}
 use Rattle.om_fields.proofs.Found.{item-any}

@@ -1,5 +1,5 @@
 -- A program by its parts.
-use Rattle.std.proofs.Common.{◌≡◌, List, refl, ap, ◌∙◌}
+use Rattle.std.proofs.Common.{◌≡◌, List, ap, ◌∙◌}
 use Rattle.om_value.specs.declared.value.Place.{Place}
 use Rattle.om_object.specs.declared.parts.Parts.{Parts}
 use Rattle.om_prog.specs.declared.item.Item.{Item}

@@ -1,11 +1,11 @@
 -- Why objects are no program: ten causes, of which the first that applies is answered. The rules 27 and 28 are this project's
 -- own reading of external relocations of the ECOFF object format; the limits are its own too. That a branch reaches 2 ^ 20
 -- words each way follows the branch format of the Alpha Architecture Handbook.
-use Rattle.std.specs.Prelude.{◌≡◌, ℕ, ◌+◌, ◌*◌, ◌/◌, ◌%◌, ◌^◌, ℤ, pos, negsuc, ◌-ℤ◌, Bool, true, false, ◌&&◌, ◌||◌, ◌==◌, not, nat_lt, if◌then◌else◌, List, [], ◌∷◌, ◌++◌, length, map, find, sum_by, take, Option, Some, None, Result, Ok, Err, is_none, option_map, option_and_then, unwrap_or, slice_get, slice_index_or}
+use Rattle.std.specs.Prelude.{◌≡◌, ℕ, ◌+◌, ◌/◌, ℤ, pos, negsuc, ◌-ℤ◌, Bool, true, false, ◌&&◌, ◌==◌, nat_lt, if◌then◌else◌, List, [], ◌∷◌, length, sum_by, take, Option, Some, None, Result, Ok, Err, is_none, option_map, option_and_then, slice_get, slice_index_or}
 use Rattle.om_fields.specs.Places.{each, joined}
 use Rattle.om_value.specs.declared.value.Place.{Place}
 use Rattle.om_value.specs.declared.value.Region.{Region}
-use Rattle.om_value.specs.declared.value.Region.TheVariants.{Sec, Common, Stack, Heap}
+use Rattle.om_value.specs.declared.value.Region.TheVariants.{Sec, Common}
 use Rattle.om_value.specs.declared.value.Target.{Target}
 use Rattle.om_value.specs.declared.value.Target.TheVariants.{Num, Ptr, Code}
 use Rattle.om_symtab.specs.declared.symbol.ExtSym.{ExtSym}
@@ -22,7 +22,7 @@ use Rattle.om_resolve.specs.declared.causes.ResolveErr.TheVariants.{Duplicate, U
 use Rattle.om_resolve.specs.declared.causes.Which.{Which}
 use Rattle.om_resolve.specs.declared.causes.Which.TheVariants.{Objects, Text, ObjText, Data, Symbols}
 use Rattle.om_resolve.specs.declared.definition.Definition.{Definition}
-use Rattle.om_resolve.specs.declared.definition.Definition.TheVariants.{Missing, Absolute, InSection, AsCommon}
+use Rattle.om_resolve.specs.declared.definition.Definition.TheVariants.{InSection}
 use Rattle.om_resolve.specs.declared.finding.Scan.{Scan}
 use Rattle.om_resolve.specs.declared.finding.Scan.TheVariants.{Names, Targets, Reach}
 use Rattle.om_resolve.specs.declared.finding.Finding.{Finding}

@@ -1,6 +1,5 @@
 -- What is wrong at relocations, and the first that is.
-use Rattle.std.specs.Prelude.{ℕ, Bool, true, false, ◌&&◌, ◌||◌, ◌==◌, nat_lt, if◌then◌else◌, List, [], ◌∷◌, fold, Option, Some, None}
-use Rattle.om_value.specs.declared.value.Place.{Place}
+use Rattle.std.specs.Prelude.{Bool, false, ◌&&◌, ◌||◌, ◌==◌, nat_lt, if◌then◌else◌, List, fold, Option, Some, None}
 use Rattle.om_resolve.specs.declared.finding.Finding.{Finding}
 use Rattle.om_resolve.specs.declared.finding.Finding.TheVariants.{Nameless, Broken, Far}
 

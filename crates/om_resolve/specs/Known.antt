@@ -1,7 +1,7 @@
 -- What the symbols of a name say, taken in one after the other.
-use Rattle.std.specs.Prelude.{ℕ, max, Bool, true, false, nat_lt, if◌then◌else◌, List, [], ◌∷◌, length, map, filter, Option, Some, None, is_none, slice_index_or, slice_set}
+use Rattle.std.specs.Prelude.{ℕ, max, nat_lt, if◌then◌else◌, List, length, Option, Some, None, is_none, slice_index_or, slice_set}
 use Rattle.om_resolve.specs.declared.definition.Definition.{Definition}
-use Rattle.om_resolve.specs.declared.definition.Definition.TheVariants.{Missing, Absolute, InSection, AsCommon}
+use Rattle.om_resolve.specs.declared.definition.Definition.TheVariants.{Missing, AsCommon}
 use Rattle.om_resolve.specs.declared.definition.Known.{Known}
 use Rattle.om_object.specs.declared.parts.Parts.{Parts}
 use Rattle.om_resolve.specs.Names.{Name, Seen, defines, asks_common, number_in, defined_by}

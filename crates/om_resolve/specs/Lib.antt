@@ -3,6 +3,7 @@ pub mod Targets
 pub mod Findings
 pub mod Causes
 pub mod Program
+pub mod Laws
 pub mod Known
 pub mod Linked
 pub mod Maps

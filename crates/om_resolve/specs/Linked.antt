@@ -1,5 +1,5 @@
 -- Objects with their names, as the code keeps them.
-use Rattle.std.specs.Prelude.{◌≡◌, ℕ, ◌<◌, ◌^◌, List, [], ◌∷◌, Vec, length, map, fold, filter, take, sum_by, Option, Some, None, option_and_then, unwrap_or, slice_get}
+use Rattle.std.specs.Prelude.{◌≡◌, ℕ, ◌<◌, ◌^◌, List, Vec, length, map, fold, filter, take, sum_by, Option, Some, None, option_and_then, unwrap_or, slice_get}
 use Rattle.om_fields.specs.Places.{each}
 use Rattle.std.proofs.Common.{Bor}
 use Rattle.indexmap.specs.IndexSet.{IndexSet}
@@ -11,6 +11,7 @@ use Rattle.om_resolve.specs.declared.linked.Linked.{Linked}
 use Rattle.om_resolve.specs.Names.{Name, is_named, names_of, number_of, symbols_seen}
 use Rattle.om_resolve.specs.Known.{note, unknown, definition_by}
 use Rattle.om_resolve.specs.Causes.{text_words}
+use Rattle.om_resolve.specs.Laws.{AreObjects}
 
 abbrev pub bytes_of : Bor (List ℕ) → List ℕ
 bytes_of k = k.now
@@ -53,8 +54,9 @@ meaning_by_number l (Some k) = definition_by k (known_at l k)
 abbrev pub meaning_at : Linked → ℕ → ℕ → Definition
 meaning_at l obj index = meaning_by_number l (number_at l obj index)
 
--- names, numbers and what is known are those of the objects
+-- the objects break no rule, and names, numbers and what is known are theirs
 pub record IsLinked (l : Linked) : Type 0 where
+  pub sound : AreObjects l.objects.now
   pub names : names_in l.names ≡ names_of l.objects.now
   pub numbers : lists_in l.numbers.items ≡ map (numbers_of l.objects.now) l.objects.now
   pub known : l.known.items ≡ map (known_of l.objects.now) (names_of l.objects.now)

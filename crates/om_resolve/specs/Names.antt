@@ -1,7 +1,7 @@
 -- Names in the order in which they are first seen, and what defines them. Which symbols define, are commons or refer follows
 -- the storage classes of the ECOFF object format (symconst.h); that a name has at most one definition, and that the largest
 -- common stands where there is none, is the rule of Unix linkers. `__start` as the entry is this project's own.
-use Rattle.std.specs.Prelude.{◌≡◌, ℕ, ◌+◌, max, Bool, true, false, ◌&&◌, ◌||◌, ◌==◌, if◌then◌else◌, List, [], ◌∷◌, ◌++◌, length, map, filter, fold, codes, bytes_eq, Option, Some, None, option_map, unwrap_or, slice_get, slice_index_or}
+use Rattle.std.specs.Prelude.{ℕ, max, Bool, true, false, if◌then◌else◌, List, [], ◌∷◌, ◌++◌, length, map, filter, fold, codes, bytes_eq, Option, Some, None, unwrap_or, slice_get, slice_index_or}
 use Rattle.std.specs.List.{position_or_len}
 use Rattle.om_fields.specs.Places.{any_of, joined, minus_64}
 use Rattle.om_symtab.specs.declared.symbol.ExtSym.{ExtSym}
@@ -11,7 +11,6 @@ use Rattle.om_object.specs.declared.parts.Parts.{Parts}
 use Rattle.om_object.specs.Words.{section_of}
 use Rattle.om_resolve.specs.declared.definition.Definition.{Definition}
 use Rattle.om_resolve.specs.declared.definition.Definition.TheVariants.{Missing, Absolute, InSection, AsCommon}
-use Rattle.om_resolve.specs.declared.definition.Known.{Known}
 
 abbrev pub Name : Type 0
 Name = List ℕ

@@ -1,16 +1,13 @@
 -- The program of objects.
-use Rattle.std.specs.Prelude.{◌≡◌, ℕ, ℤ, ◌+◌, ◌*◌, ◌/◌, Bool, true, false, ◌==◌, if◌then◌else◌, List, [], ◌∷◌, ◌++◌, length, find, filter_map, Option, Some, None, option_map, option_and_then, unwrap_or, slice_index_or, Result, Ok, Err}
+use Rattle.std.specs.Prelude.{◌≡◌, ℕ, ℤ, ◌*◌, ◌/◌, true, ◌==◌, if◌then◌else◌, List, [], ◌∷◌, ◌++◌, length, find, Option, Some, None, option_map, option_and_then, unwrap_or, slice_index_or, Result, Ok, Err}
 use Rattle.std.specs.Option.{option_to_list}
 use Rattle.om_fields.specs.Places.{each, joined, round_up, number_at}
 use Rattle.om_fields.specs.Sections.{is_bss}
-use Rattle.om_isa.specs.declared.instr.Instr.{Instr}
 use Rattle.om_isa.specs.declared.instr.Instr.TheVariants.{Halt}
 use Rattle.om_isa.specs.Words.{instr_of}
 use Rattle.om_value.specs.declared.value.Place.{Place}
-use Rattle.om_value.specs.declared.value.Region.{Region}
 use Rattle.om_value.specs.declared.value.Region.TheVariants.{Sec, Common}
 use Rattle.om_value.specs.declared.value.Target.{Target}
-use Rattle.om_value.specs.declared.value.Value.{Value}
 use Rattle.om_value.specs.declared.value.Value.TheVariants.{GpOff}
 use Rattle.om_value.specs.Lift.{value_of}
 use Rattle.om_prog.specs.declared.item.Role.{Role}

@@ -1,14 +1,13 @@
 -- Worked rows of names and programs.
-use Rattle.std.specs.Prelude.{◌≡◌, ℕ, ℤ, pos, negsuc, List, [], ◌∷◌, codes, map, Some, None, refl, true, false}
+use Rattle.std.specs.Prelude.{◌≡◌, ℕ, pos, negsuc, List, [], ◌∷◌, codes, map, Some, None, refl, true, false}
 use Rattle.om_isa.specs.Words.{instr_of, memory_at, branch_at, jump_at, misc_at, move_at, operate_at, operand_at, fixed_at}
-use Rattle.om_value.specs.declared.value.Region.TheVariants.{Sec, Common}
-use Rattle.om_value.specs.declared.value.Target.TheVariants.{Ptr, Code}
-use Rattle.om_value.specs.declared.value.Value.TheVariants as value
-use Rattle.om_prog.specs.declared.item.Role.TheVariants.{Plain, Lit, GpHi, GpLo, To}
+use Rattle.om_value.specs.declared.value.Region.TheVariants.{Common}
+use Rattle.om_value.specs.declared.value.Target.TheVariants.{Ptr}
+use Rattle.om_prog.specs.declared.item.Role.TheVariants.{Plain, Lit, To}
 use Rattle.om_prog.specs.Rows.{exit_seven}
 use Rattle.om_reloc.specs.declared.reloc.Reloc.{Reloc}
 use Rattle.om_reloc.specs.declared.reloc.RelocKind.{RelocKind}
-use Rattle.om_reloc.specs.declared.reloc.RelocKind.TheVariants.{RefQuad, GpRel32, Literal, GpDisp, BrAddr}
+use Rattle.om_reloc.specs.declared.reloc.RelocKind.TheVariants.{RefQuad, Literal, BrAddr}
 use Rattle.om_fields.specs.Sections.{number_of_name, is_passed_over}
 use Rattle.om_symtab.specs.Classes.{section_of_class}
 use Rattle.om_symtab.specs.declared.symbol.ExtSym.{ExtSym}
@@ -20,7 +19,7 @@ use Rattle.om_object.specs.Rules.{four_bytes, first_broken, made_rules}
 use Rattle.om_resolve.specs.declared.causes.ResolveErr.TheVariants.{Duplicate, Unresolved, Rule, Limit, TooFar}
 use Rattle.om_resolve.specs.declared.causes.Which.TheVariants.{Text, ObjText, Data}
 use Rattle.om_resolve.specs.Names.{names_of, number_of, symbols_seen, definition_of, definition_at, meaning_of}
-use Rattle.om_resolve.specs.Causes.{reaches, index_of, distance, duplicate, no_start, found_in_section, found_in_object, found_in, scanned, many_objects, long_text, long_object, much_data, many_symbols, name_causes, limit_causes, first_cause}
+use Rattle.om_resolve.specs.Causes.{duplicate, no_start, found_in_section, found_in_object, found_in, scanned, many_objects, long_text, long_object, much_data, many_symbols, name_causes, limit_causes, first_cause}
 use Rattle.om_resolve.specs.Program.{program_of, roles_at, roles_in, role_at, text_of, fields_of, region_at, regions_of}
 
 -- the file of three words

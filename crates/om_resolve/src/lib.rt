@@ -6,6 +6,7 @@ mod causes;
 mod definition;
 mod fields;
 mod finding;
+mod laws;
 mod linked;
 mod names;
 mod prefixes;
@@ -21,4 +22,5 @@ mod texts;
 mod totals;
 
 pub use causes::{ResolveErr, Which};
+pub use laws::objects_make_programs;
 pub use resolving::resolve;

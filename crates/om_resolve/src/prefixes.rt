@@ -3,6 +3,7 @@ ghost use Rattle.std.specs.Prelude.{◌≡◌, ◌<◌, ◌+◌, ◌/◌, ◌^�
 ghost use Rattle.om_fields.specs.Places.{each};
 ghost use Rattle.om_object.specs.Words.{section_of};
 ghost use Rattle.om_resolve.specs.Causes.{text_size as size_of_text, text_words};
+ghost use Rattle.om_resolve.specs.Laws.{AreObjects};
 ghost use Rattle.om_resolve.specs.Linked.{words_before};
 
 use om_io::NoMemory;
@@ -20,10 +21,12 @@ pub(crate) fn text_size(p: &Parts) -> u64
     }
 }
 
-/// How many words of text stand in the objects before each, and in all. More than 32 bits hold is taken as want of memory.
+/// How many words of text stand in the objects before each, and in all, of objects that break no rule. More than 32
+/// bits hold is taken as want of memory.
 pub(crate) fn text_starts(alloc: Global, objects: &[Object]) -> Result<(Vec<u32>, u32), NoMemory>
     ensures starts { IfOk result (λ r. r.0.items ≡ each (words_before objects.now) (length objects.now)) }
     ensures words { IfOk result (λ r. r.1 ≡ sum_by text_words objects.now) }
+    ensures sound { IfOk result (λ r. AreObjects objects.now) }
 {
     let mut starts = Vec::new(alloc);
     let mut words: u32 = 0;

@@ -16,7 +16,7 @@ use crate::texts::texts;
 use crate::totals::check_limits;
 use om_io::{Name, NoMemory};
 use om_object::Object;
-use om_prog::Program;
+use om_prog::{ProgErr, Program};
 use om_value::Place;
 use std::alloc::Global;
 
@@ -158,11 +158,16 @@ fn program(alloc: Global, l: &Linked<'_>) -> Result<Program, NoMemory>
     let entry = entry(l)?;
     match Program::make(alloc, texts, regions, entry) {
         Ok(program) => Ok(program),
-        Err(_) => Err(NoMemory),
+        Err(ProgErr::NoMemory) => Err(NoMemory),
+        Err(ProgErr::Bad) => unreachable!(),
     }
 }
 
-/// The program of objects, which are numbered from 0 in their order, or the first cause why they are none.
+/// The program of objects, which are numbered from 0 in their order, or the first cause why they are none. Where no
+/// cause applies they have one (see `objects_make_programs`), and only want of memory can take its place; it can take
+/// the place of a cause too.
+///
+/// Takes time near-linear in the symbols, relocations, words and fields, and memory for the program and the names.
 pub fn resolve(alloc: Global, objects: &[Object]) -> Result<Program, ResolveErr>
     requires { length objects.now < 2 ^ 32 }
     ensures { Resolves objects.now result }

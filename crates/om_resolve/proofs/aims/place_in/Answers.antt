@@ -1,11 +1,9 @@
-use Rattle.std.proofs.Common.{◌≡◌, ℕ, ◌+◌, ◌*◌, ◌/◌, ◌^◌, ◌<◌, ◌≤◌, Bool, true, false, List, [], ◌∷◌, ◌++◌, length, map, fold, take, refl, ap, sym, subst, ◌∙◌, arith, slice_index_or}
-use Rattle.std.specs.Prelude.{Option, Some, None, slice_get, option_map, unwrap_or, is_some, sum_by, IfOk}
+use Rattle.std.proofs.Common.{◌≡◌, ap, sym, ◌∙◌}
+use Rattle.std.specs.Prelude.{Some}
 use Rattle.om_value.specs.declared.value.Region.TheVariants.{Sec}
 use Rattle.om_value.specs.declared.value.Target.TheVariants.{Ptr}
-use Rattle.om_object.specs.declared.parts.Section.{Section}
 use Rattle.om_object.specs.Words.{section_of}
 use Rattle.om_resolve.specs.Names.{object_at}
-use Rattle.om_resolve.specs.Targets.{byte_in, place_in}
 use Rattle.om_resolve.proofs.Places.{numbered, other_number}
 use Rattle.om_resolve.proofs.aims.place_in.Goals as goal
 

@@ -1,4 +1,4 @@
-use Rattle.std.proofs.Common.{◌≡◌, ◌<◌, ◌+◌, ℕ, List, map, fold, drop, length, ap, sym, ◌∙◌, arith, slice_index_or}
+use Rattle.std.proofs.Common.{◌≡◌, ◌<◌, ◌+◌, List, map, fold, drop, length, ap, sym, ◌∙◌, arith, slice_index_or}
 use Rattle.om_symtab.specs.declared.symbol.ExtSym.{ExtSym}
 use Rattle.om_resolve.specs.Names.{Name, with_name}
 use Rattle.om_resolve.specs.Linked.{bytes_of, names_in}

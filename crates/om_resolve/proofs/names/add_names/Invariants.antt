@@ -1,4 +1,4 @@
-use Rattle.std.proofs.Common.{◌≡◌, ℕ, ◌+◌, ◌*◌, ◌^◌, ◌<◌, ◌≤◌, List, [], ◌∷◌, ◌++◌, length, map, fold, take, drop, slice_index_or}
+use Rattle.std.proofs.Common.{◌≡◌, map, fold, drop}
 use Rattle.om_resolve.specs.Names.{with_name}
 use Rattle.om_resolve.specs.Linked.{names_in}
 use Rattle.om_resolve.proofs.names.add_names.Given as goal

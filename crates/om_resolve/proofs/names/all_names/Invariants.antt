@@ -1,4 +1,4 @@
-use Rattle.std.proofs.Common.{◌≡◌, ℕ, ◌+◌, ◌*◌, ◌^◌, ◌<◌, ◌≤◌, List, [], ◌∷◌, ◌++◌, length, map, fold, take, drop, slice_index_or}
+use Rattle.std.proofs.Common.{◌≡◌, [], ◌∷◌, fold}
 use Rattle.om_fields.specs.Places.{joined}
 use Rattle.om_resolve.specs.Names.{with_name, start_name, symbol_names, object_at}
 use Rattle.om_resolve.specs.Linked.{names_in}

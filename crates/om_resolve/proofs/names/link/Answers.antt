@@ -1,5 +1,4 @@
-use Rattle.std.proofs.Common.{◌≡◌, ℕ, ◌+◌, ◌*◌, ◌/◌, ◌^◌, ◌<◌, ◌≤◌, Bool, true, false, List, [], ◌∷◌, ◌++◌, length, map, fold, take, refl, ap, sym, subst, ◌∙◌, arith, slice_index_or}
-use Rattle.std.specs.Prelude.{Option, Some, None, slice_get, option_map, unwrap_or, is_some, sum_by, IfOk}
+use Rattle.std.proofs.Common.{◌≡◌, List, length, map, fold, ap, sym, ◌∙◌, arith}
 use Rattle.std.specs.Prelude.{replicate}
 use Rattle.std.proofs.lemmas.List.{length-map}
 use Rattle.om_fields.specs.Places.{joined}
@@ -24,6 +23,7 @@ returns-clause-linked c =
     c.in_ok-numbers.ensures.known ∙ ap (λ (ns : List Name). fold (noted objects ns) c.in_ok-known.known.items seen) names
     ∙ ap (λ (ks : List Known). fold (noted objects (names_of objects)) ks seen) start ∙ all_known objects in
     record {
+      sound = c.in_ok-starts.ensures.sound;
       names = names;
       numbers = c.in_ok-numbers.ensures.numbers ∙ ap (λ (ns : List Name). map (λ (p : Parts). map (λ (y : ExtSym). number_in ns y.name) p.symbols) objects) names;
       known = known;

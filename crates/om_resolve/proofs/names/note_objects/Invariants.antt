@@ -1,4 +1,4 @@
-use Rattle.std.proofs.Common.{◌≡◌, ℕ, ◌+◌, ◌*◌, ◌^◌, ◌<◌, ◌≤◌, List, [], ◌∷◌, ◌++◌, length, map, fold, take, drop, slice_index_or}
+use Rattle.std.proofs.Common.{◌≡◌, map, fold, take}
 use Rattle.om_fields.specs.Places.{joined}
 use Rattle.om_resolve.specs.Names.{object_at, number_in, seen_in}
 use Rattle.om_resolve.specs.Known.{noted}

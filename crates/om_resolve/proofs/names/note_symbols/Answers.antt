@@ -1,5 +1,4 @@
-use Rattle.std.proofs.Common.{◌≡◌, ℕ, ◌+◌, ◌*◌, ◌/◌, ◌^◌, ◌<◌, ◌≤◌, Bool, true, false, List, [], ◌∷◌, ◌++◌, length, map, fold, take, refl, ap, sym, subst, ◌∙◌, arith, slice_index_or}
-use Rattle.std.specs.Prelude.{Option, Some, None, slice_get, option_map, unwrap_or, is_some, sum_by, IfOk}
+use Rattle.std.proofs.Common.{◌≡◌, ℕ, ◌<◌, List, [], ◌∷◌, ◌++◌, length, map, fold, take, ap, sym, ◌∙◌, arith, slice_index_or}
 use Rattle.om_symtab.specs.declared.symbol.ExtSym.{ExtSym}
 use Rattle.om_object.specs.declared.parts.Parts.{Parts}
 use Rattle.om_object.specs.Rules.{no_symbol}
@@ -7,7 +6,7 @@ use Rattle.om_resolve.specs.declared.definition.Known.{Known}
 use Rattle.om_resolve.specs.Names.{Seen, object_at, number_in, seen_in}
 use Rattle.om_resolve.specs.Known.{noted, noted_at}
 use Rattle.om_resolve.specs.Linked.{names_in}
-use Rattle.om_resolve.proofs.Steps.{item_any, take_more, fold_append, map_more, take_mapped}
+use Rattle.om_resolve.proofs.Steps.{item_any, fold_append, map_more, take_mapped}
 use Rattle.om_resolve.proofs.names.note_symbols.Goals as goal
 
 pub loop-j-preserved : goal.loop-j-preserved

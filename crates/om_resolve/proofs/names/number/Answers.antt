@@ -1,5 +1,4 @@
-use Rattle.std.proofs.Common.{◌≡◌, ℕ, ◌+◌, ◌*◌, ◌/◌, ◌^◌, ◌<◌, ◌≤◌, Bool, true, false, List, [], ◌∷◌, ◌++◌, length, map, fold, take, refl, ap, sym, subst, ◌∙◌, arith, slice_index_or}
-use Rattle.std.specs.Prelude.{Option, Some, None, slice_get, option_map, unwrap_or, is_some, sum_by, IfOk}
+use Rattle.std.proofs.Common.{sym, ◌∙◌}
 use Rattle.om_resolve.specs.Names.{number_in}
 use Rattle.om_resolve.specs.Linked.{names_in}
 use Rattle.om_resolve.proofs.Places.{absent_number, present_number, ok_along}

@@ -1,9 +1,8 @@
-use Rattle.std.proofs.Common.{◌≡◌, ℕ, ◌+◌, ◌*◌, ◌/◌, ◌^◌, ◌<◌, ◌≤◌, Bool, true, false, List, [], ◌∷◌, ◌++◌, length, map, fold, take, refl, ap, sym, subst, ◌∙◌, arith, slice_index_or}
-use Rattle.std.specs.Prelude.{Option, Some, None, slice_get, option_map, unwrap_or, is_some, sum_by, IfOk}
+use Rattle.std.proofs.Common.{◌≡◌, ℕ, ◌+◌, ◌/◌, ◌<◌, List, [], ◌∷◌, ◌++◌, length, ap, sym, subst, ◌∙◌, arith, below_more}
 use Rattle.om_fields.specs.Places.{each}
-use Rattle.om_object.specs.declared.parts.Parts.{Parts}
+use Rattle.om_object.specs.Rules.{IsObject}
 use Rattle.om_resolve.specs.Names.{object_at, no_parts}
-use Rattle.om_resolve.specs.Causes.{text_size, text_words}
+use Rattle.om_resolve.specs.Causes.{text_words}
 use Rattle.om_resolve.specs.Linked.{words_before}
 use Rattle.om_resolve.proofs.Steps.{item_any, each_more, sum_more}
 use Rattle.om_resolve.proofs.prefixes.text_starts.Goals as goal
@@ -18,4 +17,5 @@ loop-i-preserved c =
       c.in_ok-push.ensures.items ∙ ap (λ (ws : List ℕ). ws ++ c.loop-i.words ∷ []) c.loop-i.invariant.0
           ∙ ap (λ w. each (words_before objects) i ++ w ∷ []) c.loop-i.invariant.1 ∙ sym (each_more (words_before objects) i),
       ap (λ w. w + c.text_size-more.result / 4) c.loop-i.invariant.1 ∙ ap (λ m. words_before objects i + m) more ∙ sym (sum_more text_words objects i no_parts below),
+      below_more _ _ c.loop-i.invariant.2 (subst IsObject (c.index-objects-i.is ∙ item_any objects i c.index-objects-i.result no_parts below) c.parts.ensures.object),
     )

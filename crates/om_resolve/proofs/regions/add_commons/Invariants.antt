@@ -1,4 +1,4 @@
-use Rattle.std.proofs.Common.{◌≡◌, ℕ, ◌+◌, ◌*◌, ◌^◌, ◌<◌, ◌≤◌, List, [], ◌∷◌, ◌++◌, length, map, fold, take, drop, slice_index_or}
+use Rattle.std.proofs.Common.{◌≡◌, ◌++◌}
 use Rattle.om_fields.specs.Places.{joined}
 use Rattle.om_resolve.specs.Program.{common_at}
 use Rattle.om_resolve.proofs.regions.add_commons.Given as goal

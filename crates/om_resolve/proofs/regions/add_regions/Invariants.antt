@@ -1,4 +1,4 @@
-use Rattle.std.proofs.Common.{◌≡◌, ℕ, ◌+◌, ◌*◌, ◌^◌, ◌<◌, ◌≤◌, List, [], ◌∷◌, ◌++◌, length, map, fold, take, drop, slice_index_or}
+use Rattle.std.proofs.Common.{◌≡◌, ◌++◌, slice_index_or}
 use Rattle.om_fields.specs.Places.{joined}
 use Rattle.om_resolve.specs.Causes.{region_numbers}
 use Rattle.om_resolve.specs.Program.{region_at}

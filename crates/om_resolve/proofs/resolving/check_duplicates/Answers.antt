@@ -1,5 +1,5 @@
-use Rattle.std.proofs.Common.{◌≡◌, ℕ, ◌+◌, ◌*◌, ◌/◌, ◌^◌, ◌<◌, ◌≤◌, Bool, true, false, List, [], ◌∷◌, ◌++◌, length, map, fold, take, refl, ap, sym, subst, ◌∙◌, arith, slice_index_or}
-use Rattle.std.specs.Prelude.{Option, Some, None, slice_get, option_map, unwrap_or, is_some, sum_by, IfOk}
+use Rattle.std.proofs.Common.{◌≡◌, ℕ, ◌<◌, List, [], length, ap, sym, ◌∙◌, arith, slice_index_or}
+use Rattle.std.specs.Prelude.{Option, Some, None, slice_get, option_map, unwrap_or}
 use Rattle.om_resolve.specs.declared.causes.ResolveErr.TheVariants.{Duplicate}
 use Rattle.om_resolve.specs.declared.definition.Known.{Known}
 use Rattle.om_resolve.specs.Names.{Name, Seen, names_of, defining, common_sizes, greatest}
@@ -7,7 +7,7 @@ use Rattle.om_resolve.specs.Causes.{duplicate, two_of}
 use Rattle.om_resolve.specs.Linked.{known_at}
 use Rattle.om_resolve.proofs.Steps.{get_here}
 use Rattle.om_resolve.proofs.Given.{given_more, given_here, given_whole, two_here, none_here}
-use Rattle.om_resolve.proofs.Knowing.{with_none, first_all, second_all}
+use Rattle.om_resolve.proofs.Knowing.{first_all, second_all}
 use Rattle.om_resolve.proofs.Meanings.{known_length, known_there}
 use Rattle.std.proofs.lemmas.Option.{slice_get_read}
 use Rattle.om_resolve.proofs.resolving.check_duplicates.Goals as goal

@@ -1,5 +1,4 @@
-use Rattle.std.proofs.Common.{◌≡◌, ℕ, ◌+◌, ◌*◌, ◌/◌, ◌^◌, ◌<◌, ◌≤◌, Bool, true, false, List, [], ◌∷◌, ◌++◌, length, map, fold, take, refl, ap, sym, subst, ◌∙◌, arith, slice_index_or}
-use Rattle.std.specs.Prelude.{Option, Some, None, slice_get, option_map, unwrap_or, is_some, sum_by, IfOk}
+use Rattle.std.proofs.Common.{[], ◌∷◌}
 use Rattle.om_resolve.specs.declared.finding.Scan.TheVariants.{Names, Targets}
 use Rattle.om_resolve.specs.Causes.{duplicate, no_start, scanned, name_causes}
 use Rattle.om_resolve.proofs.Given.{found_here, found_later, checked_later, checked_last}

@@ -1,8 +1,7 @@
-use Rattle.std.proofs.Common.{◌≡◌, ℕ, ◌+◌, ◌*◌, ◌/◌, ◌^◌, ◌<◌, ◌≤◌, Bool, true, false, List, [], ◌∷◌, ◌++◌, length, map, fold, take, refl, ap, sym, subst, ◌∙◌, arith, slice_index_or}
-use Rattle.std.specs.Prelude.{Option, Some, None, slice_get, option_map, unwrap_or, is_some, sum_by, IfOk}
-use Rattle.std.specs.Prelude.{if◌then◌else◌}
+use Rattle.std.proofs.Common.{◌≡◌, true, false, [], refl, ap, sym, ◌∙◌}
+use Rattle.std.specs.Prelude.{Some}
 use Rattle.om_resolve.specs.declared.causes.ResolveErr.TheVariants.{Unresolved}
-use Rattle.om_resolve.specs.Names.{Name, Seen, start_name, names_of, defining, common_sizes, greatest, definition_of}
+use Rattle.om_resolve.specs.Names.{Name, start_name, names_of, defining, definition_of}
 use Rattle.om_resolve.specs.Causes.{no_start, is_in_text, first_object}
 use Rattle.om_resolve.proofs.Naming.{start_first}
 use Rattle.om_resolve.proofs.Meanings.{definition_there, definition_of_start, first_definer}

@@ -1,7 +1,6 @@
-use Rattle.std.proofs.Common.{◌≡◌, ℕ, ◌+◌, ◌*◌, ◌/◌, ◌^◌, ◌<◌, ◌≤◌, Bool, true, false, List, [], ◌∷◌, ◌++◌, length, map, fold, take, refl, ap, sym, subst, ◌∙◌, arith, slice_index_or}
-use Rattle.std.specs.Prelude.{Option, Some, None, slice_get, option_map, unwrap_or, is_some, sum_by, IfOk}
+use Rattle.std.proofs.Common.{◌≡◌, ap, sym, subst, ◌∙◌}
+use Rattle.std.specs.Prelude.{IfOk}
 use Rattle.om_resolve.specs.declared.definition.Definition.{Definition}
-use Rattle.om_resolve.specs.Names.{start_name, definition_of}
 use Rattle.om_resolve.specs.Program.{entry_by}
 use Rattle.om_resolve.proofs.Meanings.{definition_there, definition_of_start, entry_other}
 use Rattle.om_resolve.proofs.resolving.entry.Goals as goal

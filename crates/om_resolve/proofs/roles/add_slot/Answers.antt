@@ -1,11 +1,9 @@
-use Rattle.std.proofs.Common.{◌≡◌, ℕ, ◌+◌, ◌*◌, ◌/◌, ◌^◌, ◌<◌, ◌≤◌, Bool, true, false, List, [], ◌∷◌, ◌++◌, length, map, fold, take, refl, ap, sym, subst, ◌∙◌, arith, slice_index_or}
-use Rattle.std.specs.Prelude.{Option, Some, None, slice_get, option_map, unwrap_or, is_some, sum_by, IfOk}
+use Rattle.std.proofs.Common.{◌≡◌, true, ap, sym, ◌∙◌}
+use Rattle.std.specs.Prelude.{Some, is_some}
 use Rattle.std.specs.BTreeMap.{get}
 use Rattle.std.specs.Ordering.{nat_cmp, is_eq}
 use Rattle.std.proofs.Common.{cond}
-use Rattle.om_reloc.specs.declared.reloc.RelocKind.{RelocKind}
 use Rattle.om_object.specs.Aims.{is_quad}
-use Rattle.om_object.specs.Words.{offset_of}
 use Rattle.om_resolve.proofs.Put.{quad_put, quad_kept, quad_other, other_kind}
 use Rattle.om_resolve.proofs.roles.add_slot.Goals as goal
 

@@ -1,4 +1,4 @@
-use Rattle.std.proofs.Common.{◌≡◌, ℕ, ◌+◌, ◌*◌, ◌^◌, ◌<◌, ◌≤◌, List, [], ◌∷◌, ◌++◌, length, map, fold, take, drop, slice_index_or}
+use Rattle.std.proofs.Common.{take}
 use Rattle.om_resolve.specs.Maps.{HasQuads}
 use Rattle.om_resolve.proofs.roles.quads_of.Given as goal
 

@@ -1,4 +1,3 @@
-use Rattle.std.proofs.Common.{◌≡◌, ℕ, ◌+◌, ◌*◌, ◌^◌, ◌<◌, ◌≤◌, List, [], ◌∷◌, ◌++◌, length, map, fold, take, drop, slice_index_or}
 use Rattle.om_fields.specs.Places.{joined}
 use Rattle.om_object.specs.Rules.{reloc_at}
 use Rattle.om_resolve.specs.Program.{roles_at}

@@ -1,4 +1,4 @@
-use Rattle.std.proofs.Common.{◌≡◌, ℕ, ◌+◌, ◌*◌, ◌^◌, ◌<◌, ◌≤◌, List, [], ◌∷◌, ◌++◌, length, map, fold, take, drop, slice_index_or}
+use Rattle.std.proofs.Common.{◌≡◌, fold}
 use Rattle.om_fields.specs.Places.{each}
 use Rattle.om_object.specs.Rules.{reloc_at}
 use Rattle.om_resolve.specs.Findings.{better}

@@ -1,6 +1,4 @@
-use Rattle.std.proofs.Common.{◌≡◌, ℕ, ◌+◌, ◌*◌, ◌/◌, ◌^◌, ◌<◌, ◌≤◌, Bool, true, false, List, [], ◌∷◌, ◌++◌, length, map, fold, take, refl, ap, sym, subst, ◌∙◌, arith, slice_index_or}
-use Rattle.std.specs.Prelude.{Option, Some, None, slice_get, option_map, unwrap_or, is_some, sum_by, IfOk}
-use Rattle.om_resolve.specs.Causes.{index_of}
+use Rattle.std.proofs.Common.{◌+◌, ap, ◌∙◌}
 use Rattle.om_resolve.specs.Linked.{words_before}
 use Rattle.om_resolve.proofs.Meanings.{start_there}
 use Rattle.om_resolve.proofs.scans.index.Goals as goal

@@ -1,4 +1,4 @@
-use Rattle.std.proofs.Common.{◌≡◌, ℕ, ◌+◌, ◌*◌, ◌^◌, ◌<◌, ◌≤◌, List, [], ◌∷◌, ◌++◌, length, map, fold, take, drop, slice_index_or}
+use Rattle.std.proofs.Common.{◌≡◌}
 use Rattle.om_fields.specs.Places.{each}
 use Rattle.om_prog.specs.View.{items_lists}
 use Rattle.om_resolve.specs.Program.{text_of}

@@ -1,7 +1,7 @@
-use Rattle.std.proofs.Common.{◌≡◌, ℕ, ◌+◌, ◌*◌, ◌/◌, ◌^◌, ◌<◌, ◌≤◌, Bool, true, false, List, [], ◌∷◌, ◌++◌, length, map, fold, take, refl, ap, sym, subst, ◌∙◌, arith, slice_index_or}
-use Rattle.std.specs.Prelude.{Option, Some, None, slice_get, option_map, unwrap_or, is_some, sum_by, IfOk}
+use Rattle.std.proofs.Common.{◌≡◌, ◌+◌, [], ◌∷◌, length, ap, subst, ◌∙◌}
+use Rattle.std.specs.Prelude.{None, sum_by}
 use Rattle.om_object.specs.declared.parts.Parts.{Parts}
-use Rattle.om_resolve.specs.declared.causes.Which.TheVariants.{Objects, Text, Data, Symbols}
+use Rattle.om_resolve.specs.declared.causes.Which.TheVariants.{Text, Data, Symbols}
 use Rattle.om_resolve.specs.Causes.{Blames, Checks, over, text_size, data_size, commons_size, many_objects, long_text, long_object, much_data, many_symbols, limit_causes}
 use Rattle.om_resolve.proofs.Given.{found_here, found_later, checked_later, checked_last}
 use Rattle.om_resolve.proofs.totals.check_limits.Goals as goal

@@ -1,5 +1,4 @@
-use Rattle.std.proofs.Common.{◌≡◌, ℕ, ◌+◌, ◌*◌, ◌/◌, ◌^◌, ◌<◌, ◌≤◌, Bool, true, false, List, [], ◌∷◌, ◌++◌, length, map, fold, take, refl, ap, sym, subst, ◌∙◌, arith, slice_index_or}
-use Rattle.std.specs.Prelude.{Option, Some, None, slice_get, option_map, unwrap_or, is_some, sum_by, IfOk}
+use Rattle.std.proofs.Common.{◌≡◌, ◌<◌, length, ap, sym, subst, ◌∙◌, arith}
 use Rattle.om_object.specs.declared.parts.Parts.{Parts}
 use Rattle.om_resolve.specs.declared.causes.Which.TheVariants.{ObjText}
 use Rattle.om_resolve.specs.Names.{object_at, no_parts}

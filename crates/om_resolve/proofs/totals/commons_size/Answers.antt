@@ -1,5 +1,5 @@
-use Rattle.std.proofs.Common.{◌≡◌, ℕ, ◌+◌, ◌*◌, ◌/◌, ◌^◌, ◌<◌, ◌≤◌, Bool, true, false, List, [], ◌∷◌, ◌++◌, length, map, fold, take, refl, ap, sym, subst, ◌∙◌, arith, slice_index_or}
-use Rattle.std.specs.Prelude.{Option, Some, None, slice_get, option_map, unwrap_or, is_some, sum_by, IfOk}
+use Rattle.std.proofs.Common.{◌≡◌, ◌+◌, ◌<◌, [], length, take, ap, sym, ◌∙◌, arith, slice_index_or}
+use Rattle.std.specs.Prelude.{sum_by}
 use Rattle.om_resolve.specs.Names.{Name, names_of, definition_of}
 use Rattle.om_resolve.specs.Targets.{common_size}
 use Rattle.om_resolve.proofs.Steps.{get_here, sum_more}
