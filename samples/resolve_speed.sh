@@ -85,7 +85,7 @@ rt run >"$work/log" 2>&1 </dev/null || true
 test -x out/resolver || { tail -5 "$work/log" >&2; exit 1; }
 
 echo "2. Making large objects"
-python3 "$top/samples/make_many.py" "$work/files"
+python3 -B "$top/samples/make_many.py" "$work/files"
 
 echo "3. Resolving each list three times"
 for list in "$work"/files/*.objs; do

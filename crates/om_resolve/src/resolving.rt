@@ -159,6 +159,7 @@ fn program(alloc: Global, l: &Linked<'_>) -> Result<Program, NoMemory>
     match Program::make(alloc, texts, regions, entry) {
         Ok(program) => Ok(program),
         Err(ProgErr::NoMemory) => Err(NoMemory),
+        // Objects without a cause make a program.
         Err(ProgErr::Bad) => unreachable!(),
     }
 }
