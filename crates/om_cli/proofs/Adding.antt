@@ -1,5 +1,5 @@
 -- A line that is put piece by piece.
-use Rattle.std.proofs.Common.{◌++◌, ℕ, List, Option, Some, Result, Ok, Err, sym, ap, ◌∙◌, append_assoc, arith}
+use Rattle.std.proofs.Common.{◌≡◌, ◌++◌, ℕ, List, Option, Some, Result, Ok, Err, refl, sym, ap, ◌∙◌, append_assoc, arith}
 use Rattle.std.specs.Prelude.{IsErr}
 use Rattle.std.proofs.lemmas.Bool.{true≢false}
 use Rattle.om_cli.specs.Telling.{Adds, HasLine, HasFront}
@@ -57,3 +57,10 @@ whole_line adds = record { appended = adds.appends; no_fault = adds.cause.kept }
 pub front_of_line : {T E : Type 0} {line : List ℕ} {w0 : Option (List ℕ)} {f0 : ℕ} {w1 : Option (List ℕ)} {f1 : ℕ} {e : E} →
     Adds {T = T} {E = E} line w0 f0 w1 f1 (Err e) → HasFront line w0 f0 w1 f1
 front_of_line adds = record { appended = adds.appends; fault = adds.cause.failed }
+
+-- pieces that are put one after the other, and the line that they are
+pub five_parts : (a b c d e : List ℕ) → a ++ (b ++ (c ++ (d ++ e))) ≡ a ++ b ++ c ++ d ++ e
+five_parts a b c d e = simp append_assoc refl
+
+pub eight_parts : (a b c d e f g h : List ℕ) → a ++ (b ++ (c ++ (d ++ (e ++ (f ++ (g ++ h)))))) ≡ a ++ b ++ c ++ d ++ e ++ f ++ g ++ h
+eight_parts a b c d e f g h = simp append_assoc refl

@@ -12,3 +12,6 @@ pub mod Asking
 pub mod Pieces
 pub mod Loads
 pub mod Ran
+mod Simmed
+mod Causing
+mod SimTelling

@@ -1,24 +1,23 @@
 -- From the runs of the machine to what a command promises of them.
-use Rattle.std.proofs.Common.{◌≡◌, ◌≤◌, ◌<◌, ◌+◌, ◌++◌, ◌∙◌, ℕ, zero, suc, Bool, true, false, cond, eqb, List, [], length, Option, Some, None, refl, sym, ap, subst, append_assoc, append-nil, arith}
+use Rattle.std.proofs.Common.{◌≡◌, ◌+◌, ◌++◌, ◌∙◌, ℕ, suc, Bool, true, false, cond, eqb, List, [], Option, Some, None, refl, sym, ap, subst, append_assoc, append-nil, arith}
 use Rattle.std.specs.Prelude.{option_map}
 use Rattle.std.proofs.lemmas.Option.{same_Some, none-some}
 use Rattle.om_io.specs.Outside.{IsFrontOf}
-use Rattle.om_isa.specs.SystemCall.{Call, Puts, Takes}
-use Rattle.om_image.specs.NumState.{NumState, NumEnd}
+use Rattle.om_isa.specs.SystemCall.{Call, Puts}
+use Rattle.om_image.specs.NumState.{NumState}
 use Rattle.om_isa.specs.Effect.{Calls}
 use Rattle.om_isa.specs.declared.instr.Instr.{Instr}
-use Rattle.om_image.specs.NumStep.{num_start, num_step, step_if, executed, effect_at, after, calls, fetched, puts_on}
+use Rattle.om_image.specs.NumStep.{num_start, num_step, step_if, executed, effect_at, after, calls, fetched}
 use Rattle.om_image.specs.NumRun.{num_steps, num_run}
 use Rattle.om_image.specs.declared.image.Image.{Image}
-use Rattle.om_machine.specs.View.{View, HasImage, state_of}
-use Rattle.om_machine.specs.Streams.{Told, Tells}
-use Rattle.om_machine.specs.Calls.{IsState, FailsToTake, FailsToPut}
-use Rattle.om_machine.specs.Steps.{IsAtCall, IsAnswerOf, Arrives, FailsReading, FailsWriting, RunsTo}
+use Rattle.om_machine.specs.View.{View, state_of}
+use Rattle.om_machine.specs.Streams.{Tells}
+use Rattle.om_machine.specs.Calls.{IsState}
+use Rattle.om_machine.specs.Steps.{IsAtCall, IsAnswerOf, Arrives, FailsReading, FailsWriting}
 use Rattle.om_machine.specs.declared.machine.Step.{Step}
-use Rattle.om_machine.specs.declared.machine.Step.TheVariants as step
 use Rattle.om_machine.proofs.Growing.{later_only}
-use Rattle.om_cli.specs.RunAnswers.{StandsAt, TookFront, BreaksOff, TakesNext, PutsNext}
-use Rattle.om_cli.specs.World.{Stream, Streams}
+use Rattle.om_cli.specs.RunAnswers.{StandsAt, BreaksOff, TakesNext, PutsNext}
+use Rattle.om_cli.specs.World.{Streams}
 
 -- ---- fronts
 
@@ -29,23 +28,23 @@ front_behind : (t a b : List ℕ) → IsFrontOf a b → IsFrontOf (t ++ a) (t ++
 front_behind t a b p = (p.0, append_assoc t a p.0 ∙ ap (λ l. t ++ l) p.1)
 
 -- of what a put adds where it is on a descriptor, or is not
-put_on : (b : Bool) (t front bytes later : List ℕ) → IsFrontOf front bytes → IsFrontOf (cond b (t ++ bytes) t) later →
+pub put_on : (b : Bool) (t front bytes later : List ℕ) → IsFrontOf front bytes → IsFrontOf (cond b (t ++ bytes) t) later →
     IsFrontOf (cond b (t ++ front) t) later
 put_on true t front bytes later is whole = front_again (t ++ front) (t ++ bytes) later (front_behind t front bytes is) whole
 put_on false t front bytes later is whole = whole
 
-put_off : (b : Bool) (t front bytes later : List ℕ) → IsFrontOf front bytes → IsFrontOf (cond b t (t ++ bytes)) later →
+pub put_off : (b : Bool) (t front bytes later : List ℕ) → IsFrontOf front bytes → IsFrontOf (cond b t (t ++ bytes)) later →
     IsFrontOf (cond b t (t ++ front)) later
 put_off true t front bytes later is whole = whole
 put_off false t front bytes later is whole = front_again (t ++ front) (t ++ bytes) later (front_behind t front bytes is) whole
 
 -- what was told behind what was told before
-ends_told : (old new : Option (List ℕ)) (more : List ℕ) → Tells (old, new) more → (before : List ℕ) → old ≡ Some before →
+pub ends_told : (old new : Option (List ℕ)) (more : List ℕ) → Tells (old, new) more → (before : List ℕ) → old ≡ Some before →
     new ≡ Some (before ++ more)
 ends_told None new more told before is = absurd (none-some before is)
 ends_told (Some text) new more told before is = told ∙ ap (λ l. Some (l ++ more)) (same_Some text before is)
 
-starts_told : (told : Option (List ℕ)) → Tells (told, told) []
+pub starts_told : (told : Option (List ℕ)) → Tells (told, told) []
 starts_told None = tt
 starts_told (Some text) = ap (λ (l : List ℕ). Some l) (sym (append-nil text))
 

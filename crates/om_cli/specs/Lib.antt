@@ -17,3 +17,7 @@ pub mod Answers
 pub mod RunStops
 pub mod RunAnswers
 pub mod Loading
+pub mod NoPrograms
+pub mod Programs
+pub mod SimStops
+pub mod SimAnswers

@@ -5,7 +5,7 @@ use Rattle.om_io.specs.Outside.{Appends, IsFrontOf}
 use Rattle.om_io.specs.Digits.{hex}
 use Rattle.om_cli.specs.World.{Stream}
 use Rattle.om_cli.specs.declared.lines.Piece.{Piece}
-use Rattle.om_cli.specs.declared.lines.Piece.TheVariants.{Text, Number, Address, Offset}
+use Rattle.om_cli.specs.declared.lines.Piece.TheVariants.{Text, Number, Total, Address, Offset}
 
 -- what puts of a line, piece by piece, do to what was written and to the count of faults
 pub record Adds {T E : Type 0} (line : List ℕ) (written_before : Option (List ℕ)) (faults_before : ℕ)
@@ -35,6 +35,7 @@ IsTold status line result written_before faults_before written_after faults_afte
 abbrev pub text_of : Piece → List ℕ
 text_of (Text text) = text.now
 text_of (Number n) = decimal n
+text_of (Total n) = decimal n
 text_of (Address n) = hex 16 n
 text_of (Offset n) = hex 8 n
 

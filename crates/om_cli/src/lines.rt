@@ -11,6 +11,8 @@ pub enum Piece<'a> {
     Text(&'a [u8]),
     /// A number in decimal digits.
     Number(u64),
+    /// A total in decimal digits.
+    Total(u128),
     /// An address in 16 hexadecimal digits.
     Address(u64),
     /// An offset in 8 hexadecimal digits.
@@ -23,6 +25,7 @@ fn put_piece<E: Sink>(err: &mut E, piece: Piece) -> Result<(), Failed>
     match piece {
         Piece::Text(text) => err.put(text),
         Piece::Number(n) => put_dec(err, u128::from(n)),
+        Piece::Total(n) => put_dec(err, n),
         Piece::Address(n) => put_hex(err, n, 16),
         Piece::Offset(n) => put_hex(err, u64::from(n), 8),
     }

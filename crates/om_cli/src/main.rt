@@ -7,12 +7,19 @@ mod image;
 mod lines;
 mod linking;
 mod loading;
+mod no_program;
 mod obeying;
+#[cfg(test)]
+mod object_files;
 mod report;
 mod run_stop;
 #[cfg(test)]
 mod run_tests;
 mod running;
+mod sim_stop;
+#[cfg(test)]
+mod sim_tests;
+mod simulating;
 mod stopping;
 #[cfg(test)]
 mod tests;

@@ -15,6 +15,7 @@ ghost use Rattle.om_cli.specs.declared.stopping.Stop.{Stop};
 use crate::linking::link;
 use crate::report::{report, report_not_yet};
 use crate::running::run;
+use crate::simulating::sim;
 use om_alpha::Level;
 use om_io::{Sink, Source, Store};
 use om_words::Command;
@@ -150,6 +151,9 @@ pub(crate) fn obey<S: Store, I: Source, O: Sink, E: Sink>(
             err,
         ),
         Command::Run { steps, image } => run(alloc, *steps, image.as_str(), store, input, out, err),
+        Command::Sim { steps, files } => {
+            sim(alloc, *steps, files.as_slice(), store, input, out, err)
+        }
         _ => report_not_yet(err),
     }
 }

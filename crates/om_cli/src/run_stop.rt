@@ -32,7 +32,7 @@ pub enum RunStop {
 }
 
 /// The name of a kind of trap.
-fn kind_name(kind: TrapKind) -> &'static [u8]
+pub(crate) fn kind_name(kind: TrapKind) -> &'static [u8]
     ensures { result.now ≡ name_of_kind kind }
 {
     match kind {

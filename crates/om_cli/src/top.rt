@@ -12,10 +12,13 @@ use std::alloc::Global;
 
 /// Does what the words say, and answers the status of the command.
 ///
-/// The sentences are those of `om_words::read_words`; `link -O0 -o OUT FILE`, with one file, is done so far. It loads FILE and
-/// saves under OUT an image that runs as FILE's program. A status other than 0 is told by one line on `err`: 2 the words
-/// are no sentence, or the command does not exist yet, 3 the file is refused, 6 the load failed, 7 the save or `err` failed,
-/// 8 memory ran out.
+/// The sentences are those of `om_words::read_words`; `link -O0 -o OUT FILE`, with one file, `run [-n N] IMAGE` and
+/// `sim [-n N] FILE ..` are done so far. `link` loads FILE and saves under OUT an image that runs as FILE's program; `run`
+/// runs an image, and `sim` the program of object files without giving it addresses, with the streams as descriptors 0, 1
+/// and 2. A status other than 0 is told by one line on `err`: 1 a run exited with another status than 0, 2 the words are no
+/// sentence, or the command does not exist yet, 3 a file is not there or is refused, or the files are no program, 4 a run
+/// trapped, 5 so many steps were taken without an end, 6 a load or the input failed, 7 the save or a sink failed, 8 memory
+/// ran out, 9 the image is refused, 10 the next step of the program would show an address.
 pub fn om<S: Store, I: Source, O: Sink, E: Sink>(
     alloc: Global,
     words: &[String],

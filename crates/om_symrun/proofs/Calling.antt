@@ -1,5 +1,5 @@
 -- System calls over states.
-use Rattle.std.proofs.Common.{◌≡◌, ◌≤◌, ◌<◌, ◌⊎◌, ℕ, zero, suc, ◌+◌, ◌-◌, List, [], ◌∷◌, ◌++◌, length, take, drop, true, false, Option, Some, None, Ok, Err, refl, ap, sym, subst, ◌∙◌, append_assoc, inl, inr, arith, length-take, length-drop}
+use Rattle.std.proofs.Common.{◌≡◌, ◌≤◌, ◌⊎◌, ℕ, zero, suc, ◌+◌, List, [], ◌∷◌, ◌++◌, length, take, drop, true, false, Option, Some, None, Ok, Err, refl, ap, sym, subst, ◌∙◌, append_assoc, inl, inr, arith, length-take, length-drop}
 use Rattle.std.proofs.lemmas.List.{take-append-drop}
 use Rattle.om_io.specs.Outside.{IsFrontOf}
 use Rattle.om_isa.specs.SystemCall as call
@@ -12,7 +12,7 @@ use Rattle.om_symrun.specs.RegionCells.{RegionCells, Regions}
 use Rattle.om_symrun.specs.Memory.{cells_for, count_of, memory_size, heap_size}
 use Rattle.om_symrun.specs.Streams.{Told, Tells, TellsText, Puts, Takes}
 use Rattle.om_symrun.specs.View.{View, state_of}
-use Rattle.om_symrun.specs.Calls.{IsState, FailsToTake, FailsToPut, took, put_on, bytes_of_region, region_bytes}
+use Rattle.om_symrun.specs.Calls.{IsState, FailsToTake, FailsToPut, took, bytes_of_region, region_bytes}
 use Rattle.om_symrun.proofs.States.{with_memory, took_state}
 
 drop_past : (n : ℕ) (xs : List ℕ) → length xs ≤ n → drop n xs ≡ []

@@ -1,5 +1,5 @@
 -- The start of a run.
-use Rattle.std.proofs.Common.{◌≡◌, ◌⊎◌, inl, inr, ◌≤◌, ◌<◌, ℕ, zero, suc, ◌+◌, ◌-◌, ◌/◌, ◌%◌, Bool, true, false, cond, ◌&&◌, ◌==◌, nat_le, nat_lt, List, [], ◌∷◌, length, drop, replicate, Option, Some, None, refl, ap, sym, subst, ◌∙◌, arith, add-one}
+use Rattle.std.proofs.Common.{◌≡◌, ◌⊎◌, inl, inr, ◌≤◌, ◌<◌, ℕ, zero, suc, ◌+◌, ◌-◌, ◌/◌, Bool, true, false, cond, ◌&&◌, nat_le, nat_lt, List, [], ◌∷◌, length, drop, replicate, Option, Some, None, refl, ap, sym, subst, ◌∙◌, arith}
 use Rattle.std.specs.Prelude.{find, slice_get, slice_index, slice_index_or}
 use Rattle.std.proofs.lemmas.Bool.{cases_lt, lt-ltb, le-ltb, le-leb}
 use Rattle.std.proofs.lemmas.List.{get_or_past, length-map}
@@ -20,7 +20,7 @@ use Rattle.om_prog.specs.View.{ProgramView, is_word, size_of, size_or_none, stac
 use Rattle.om_symrun.specs.RegionCells.{RegionCells, Regions}
 use Rattle.om_symrun.specs.Memory.{region_in, cell_of, count_of, memory_cells, memory_size, heap_size}
 use Rattle.om_symrun.specs.CellsIn.{cell_in, Writes, IsZeros, byte_cells}
-use Rattle.om_symrun.specs.Starting.{IsPlacedIn, AreLaid, WritesFields, field_over, IsMade, IsMadeOf, init_in, IsFirst}
+use Rattle.om_symrun.specs.Starting.{AreLaid, WritesFields, field_over, IsMade, IsMadeOf, init_in, IsFirst}
 use Rattle.om_symrun.specs.View.{View, state_of, register_in}
 use mathlib.Core.Path.{fun_ext}
 

@@ -1,5 +1,5 @@
 -- Numbers as bytes, and bytes as cells.
-use Rattle.std.proofs.Common.{◌≡◌, ◌≤◌, ◌<◌, ℕ, zero, suc, ◌+◌, ◌-◌, ◌/◌, ◌%◌, ◌∷◌, List, length, take, drop, slice_index, Option, Some, None, refl, ap, sym, subst, ◌∙◌, arith, add-one}
+use Rattle.std.proofs.Common.{◌≡◌, ◌≤◌, ◌<◌, ℕ, zero, suc, ◌+◌, ◌-◌, ◌/◌, ◌%◌, List, length, take, drop, Option, Some, None, refl, ap, sym, subst, ◌∙◌, arith, add-one}
 use Rattle.std.proofs.Math.Seq.{drop-cons}
 use Rattle.om_alpha.specs.declared.op.Size.{Size}
 use Rattle.om_alpha.specs.declared.op.Size.TheVariants as sizes

@@ -1,5 +1,5 @@
 -- Ranges of regions that hold bytes alone.
-use Rattle.std.proofs.Common.{◌≡◌, ◌≤◌, ℕ, ◌+◌, List, length, Option, Some, None, sym, subst}
+use Rattle.std.proofs.Common.{◌≡◌, ◌≤◌, ℕ, ◌+◌, Option, Some, None, sym, subst}
 use Rattle.om_value.specs.declared.value.Region.{Region}
 use Rattle.om_prog.specs.Cells.{all_bytes, cells_from}
 use Rattle.om_symrun.specs.RegionCells.{RegionCells, Regions}

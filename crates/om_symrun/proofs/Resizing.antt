@@ -1,10 +1,10 @@
 -- A region that grows.
-use Rattle.std.proofs.Common.{◌≡◌, ◌≤◌, ◌<◌, ℕ, Bool, true, false, cond, ◌&&◌, nat_lt, List, length, slice_index, get_or, refl, ap, sym, ◌∙◌, arith}
+use Rattle.std.proofs.Common.{◌≡◌, ◌≤◌, ◌<◌, ℕ, List, length, slice_index, refl, ap, sym, ◌∙◌, arith}
 use Rattle.std.proofs.Common.{◌⊎◌, inl, inr}
 use Rattle.std.proofs.lemmas.Bool.{cases_lt, lt-ltb, le-ltb}
 use Rattle.std.proofs.lemmas.List.{get_or_past}
 use Rattle.om_isa.specs.SystemCall.{resized}
-use Rattle.om_prog.specs.Cells.{Cell, Byte}
+use Rattle.om_prog.specs.Cells.{Byte}
 use Rattle.om_symrun.specs.RegionCells.{RegionCells}
 use Rattle.om_symrun.specs.CellsIn.{cell_in, cell_marked, mark_at, Resized}
 use Rattle.om_symrun.specs.declared.cells.Mark.{Mark}

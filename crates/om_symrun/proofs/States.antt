@@ -1,15 +1,15 @@
 -- States of a machine whose memory has changed.
-use Rattle.std.proofs.Common.{◌≡◌, ◌≤◌, ◌<◌, ℕ, ◌+◌, ◌*◌, ◌/◌, ◌%◌, ◌^◌, ◌==◌, Bool, true, false, cond, List, length, Option, Some, None, Result, Ok, Err, refl, ap, sym, subst, ◌∙◌, arith}
+use Rattle.std.proofs.Common.{◌≡◌, ◌≤◌, ◌<◌, ℕ, ◌+◌, ◌/◌, ◌%◌, ◌^◌, ◌==◌, Bool, true, false, cond, List, Option, Some, None, Result, Ok, Err, refl, ap, sym, subst, ◌∙◌, arith}
 use Rattle.std.specs.Prelude.{slice_get, option_and_then, IsSome, OnOk, OnErr}
 use Rattle.std.proofs.lemmas.Bool.{eqb-true}
-use Rattle.om_isa.specs.SystemCall.{heap_limit, resized}
+use Rattle.om_isa.specs.SystemCall.{heap_limit}
 use Rattle.om_value.specs.declared.value.Place.{Place}
 use Rattle.om_value.specs.declared.value.Region.{Region}
 use Rattle.om_value.specs.declared.value.Region.TheVariants.{Sec, Common, Stack, Heap}
 use Rattle.om_isa.specs.Effect.{Store}
 use Rattle.om_value.specs.declared.value.Value.TheVariants.{Num, Ptr}
 use Rattle.om_prog.specs.declared.item.Item.{Item}
-use Rattle.om_prog.specs.Cells.{Cell, Byte}
+use Rattle.om_prog.specs.Cells.{Cell}
 use Rattle.om_prog.specs.Step.{SymState, sized, writes_cells, resized_cells, next_place, after, answers, resizes}
 use Rattle.om_prog.specs.Valid.{IsProgram, IsText}
 use Rattle.om_prog.specs.View.{ProgramView, item_at, size_of}

@@ -1,14 +1,13 @@
 -- Steps of the machine are steps of the definition.
 use Rattle.std.proofs.Common.{◌≡◌, ◌≢◌, ℕ, List, Option, Some, None, refl, ap, sym, subst, ◌∙◌}
 use Rattle.std.specs.Prelude.{option_map}
-use Rattle.om_isa.specs.declared.instr.Instr.TheVariants as instr
 use Rattle.om_prog.specs.declared.item.Item.{Item}
-use Rattle.om_prog.specs.Act.{Act, Word, Plain}
+use Rattle.om_prog.specs.Act.{Act, Word}
 use Rattle.om_prog.specs.Runs.{sym_step, step_if, step_word}
-use Rattle.om_prog.specs.Script.{program_script, program_fetch, act_of}
+use Rattle.om_prog.specs.Script.{act_of}
 use Rattle.om_prog.specs.Step.{SymState, SymEnd, act_effect, after, calls}
 use Rattle.om_prog.specs.View.{item_at}
-use Rattle.om_symrun.specs.View.{View, state_of, end_of, view_script, view_state, view_effect, view_call, view_register, view_executed, view_step}
+use Rattle.om_symrun.specs.View.{View, state_of, end_of, view_script, view_effect, view_call, view_register, view_executed, view_step}
 use Rattle.om_symrun.specs.Streams.{Told}
 use Rattle.om_symrun.specs.Calls.{IsState, CallsTo, IsAnswer}
 use Rattle.om_symrun.specs.Steps.{IsAtCall, IsCallNext, IsAnswerOf, Arrives, StepsTo, word_effect}

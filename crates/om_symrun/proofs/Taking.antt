@@ -1,5 +1,5 @@
 -- Bytes that were taken, piece by piece.
-use Rattle.std.proofs.Common.{◌≡◌, ◌≤◌, ◌<◌, ℕ, ◌+◌, ◌-◌, Bool, true, false, cond, List, [], ◌∷◌, ◌++◌, length, take, drop, Option, Some, refl, ap, sym, subst, ◌∙◌, arith, nat_le, nat_lt, ◌&&◌, if◌then◌else◌, length-append, length-drop, length-take}
+use Rattle.std.proofs.Common.{◌≡◌, ◌≤◌, ℕ, ◌+◌, ◌-◌, Bool, true, false, cond, List, [], ◌++◌, length, take, drop, Option, Some, ap, sym, subst, ◌∙◌, arith, nat_le, nat_lt, ◌&&◌, if◌then◌else◌, length-append, length-drop, length-take}
 use Rattle.std.specs.Prelude.{slice_index_or}
 use Rattle.std.proofs.Math.Seq.{take-add, get_or-append_right}
 use Rattle.std.proofs.Math.ListN.{get_or-append}
@@ -10,7 +10,7 @@ use Rattle.om_value.specs.Same.{region_eq}
 use Rattle.om_prog.specs.Cells.{Cell, Byte, store_cells}
 use Rattle.om_symrun.specs.RegionCells.{Regions}
 use Rattle.om_symrun.specs.CellsIn.{byte_cells}
-use Rattle.om_symrun.specs.Memory.{memory_cells, memory_size, WritesRegion}
+use Rattle.om_symrun.specs.Memory.{memory_cells, WritesRegion}
 use Rattle.om_symrun.specs.Streams.{TakesFront}
 
 stored_twice : (f : ℕ → Cell) (a : ℕ) (xs ys : List Cell) (y : ℕ) → store_cells (store_cells f a xs) (a + length xs) ys y ≡ store_cells f a (xs ++ ys) y

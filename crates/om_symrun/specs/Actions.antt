@@ -1,5 +1,5 @@
 -- What actions mean.
-use Rattle.std.specs.Prelude.{◌≡◌, ◌≤◌, ◌<◌, ℕ, ◌+◌, ◌%◌, IsTrue, Bool, true, false, Option, Some, None}
+use Rattle.std.specs.Prelude.{◌≡◌, ◌≤◌, ◌<◌, ℕ, ◌+◌, ◌%◌, Bool, true, false, Some}
 use Rattle.om_alpha.specs.declared.op.Size.{Size}
 use Rattle.om_alpha.specs.declared.op.Size.TheVariants as size
 use Rattle.om_isa.specs.Effect.{Nothing, Set, Store, Jump, Stop, StepObserves}

@@ -3,16 +3,13 @@ use Rattle.std.specs.Prelude.{◌≡◌, ◌≤◌, ◌<◌, ◌+◌, ◌^◌, �
 use Rattle.om_io.specs.Outside.{IsFrontOf}
 use Rattle.om_isa.specs.SystemCall.{Reached, Call, Exits, Answers, Puts, Takes, HeapEnd, Resizes, CallObserves, heap_limit}
 use Rattle.om_value.specs.declared.value.Region.{Region}
-use Rattle.om_value.specs.declared.value.Region.TheVariants.{Heap}
 use Rattle.om_value.specs.declared.value.Value.{Value}
-use Rattle.om_value.specs.declared.value.Value.TheVariants.{Num, Ptr}
+use Rattle.om_value.specs.declared.value.Value.TheVariants.{Ptr}
 use Rattle.om_prog.specs.Step.{SymState, calls, taken_cells, reached, bytes_reached, room_reached}
 use Rattle.om_symrun.specs.RegionCells.{RegionCells, Regions}
-use Rattle.om_symrun.specs.CellsIn.{AllAre}
 use Rattle.om_symrun.specs.Memory.{cells_for, memory_size, heap_size}
 use Rattle.om_symrun.specs.Streams.{Told, Tells}
 use Rattle.om_symrun.specs.View.{View, state_of, view_script, view_state, view_register, view_call}
-use Rattle.om_symrun.specs.declared.cells.Mark.TheVariants as mark
 use Rattle.om_symrun.specs.declared.requests.Descriptor.{Descriptor}
 use Rattle.om_symrun.specs.declared.requests.Descriptor.TheVariants as descriptor
 use Rattle.om_symrun.specs.declared.requests.Span.{Span}

@@ -1,11 +1,6 @@
 -- The machine as contracts see it.
-use Rattle.std.specs.Prelude.{◌≡◌, ℕ, ◌==◌, ℤ, if◌then◌else◌, List, [], length, slice_index_or, Option, Some, None, option_map}
-use Rattle.om_alpha.specs.declared.op.AluOp.{AluOp}
+use Rattle.std.specs.Prelude.{ℕ, List, [], slice_index_or, Option, Some, None, option_map}
 use Rattle.om_isa.specs.SystemCall.{Call}
-use Rattle.om_isa.specs.declared.instr.Access.{Access}
-use Rattle.om_isa.specs.declared.instr.BrOp.{BrOp}
-use Rattle.om_isa.specs.declared.instr.Instr.{Instr}
-use Rattle.om_isa.specs.declared.instr.MemOp.{MemOp}
 use Rattle.om_value.specs.declared.value.Place.{Place}
 use Rattle.om_value.specs.declared.value.Value.{Value}
 use Rattle.om_value.specs.declared.value.Value.TheVariants.{Num}

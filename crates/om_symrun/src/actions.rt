@@ -1,6 +1,6 @@
 // What one word other than a system call does, before it is done.
 ghost use Rattle.std.specs.Prelude.{◌≡◌, ◌≤◌, ◌<◌, ◌+◌, ◌%◌, ◌^◌, ◌==◌, ◌*ℤ◌, nat_le, true, false, IsTrue, Some, None};
-ghost use Rattle.om_value.specs.Lift.{value_of as target_value};
+ghost use Rattle.om_value.specs.Lift.{value_of as target_value, lifted_add};
 ghost use Rattle.om_value.specs.Same.{value_eq};
 ghost use Rattle.om_prog.specs.Cells.{cells_of};
 ghost use Rattle.om_prog.specs.Step.{spot_of, access_size, address_scale, rounded as rounded_value, accessed as accessed_value, extended as extended_value, stored, next_place as place_after};
@@ -10,7 +10,7 @@ ghost use Rattle.om_symrun.specs.CellsIn.{size_bytes};
 use crate::cells::length_of;
 use om_alpha::{AluOp, Scale, Size, TrapKind, Width, alu};
 use om_isa::MemOp;
-use om_value::{Place, Region, Target, Value};
+use om_value::{Place, Region, Target, Value, lift_add};
 
 /// What one word other than a system call does.
 #[derive(Clone, Copy, PartialEq, Eq, Debug)]
@@ -135,6 +135,21 @@ pub(crate) fn accessed(op: MemOp, v: Value) -> Value
         MemOp::LdqU => rounded(v),
         MemOp::StqU => rounded(v),
         _ => v,
+    }
+}
+
+/// A value plus a signed number, or `None` exactly where that would depend on an address.
+#[tactic(auto, unfolding(om_value::specs::Lift::lifted_add, om_value::specs::Lift::lifted, om_value::specs::Lift::on_numbers, om_value::specs::Lift::moves_pointer))]
+pub(crate) fn moved(base: Value, n: i64) -> Option<Value>
+    ensures { result ≡ lifted_add base n }
+{
+    match base {
+        Value::Num(m) => Some(Value::Num(m.wrapping_add(n.cast_unsigned()))),
+        Value::Ptr { region, off } => Some(Value::Ptr {
+            region,
+            off: off.wrapping_add(n.cast_unsigned()),
+        }),
+        _ => lift_add(base, n),
     }
 }
 

@@ -2,7 +2,7 @@
 ghost use Rattle.std.specs.Prelude.{Bool, ◌⊎◌, ◌≡◌, ◌≢◌, ◌≤◌, ◌<◌, ◌+◌, ◌^◌, ◌++◌, ◌&&◌, ◌==◌, ℕ, List, [], IsTrue, IsSome, IfOk, OnOk, OnErr, Option, Some, None, is_some, option_map, slice_index_or, true, false};
 ghost use Rattle.om_io.specs.Causes.{Rose};
 ghost use Rattle.om_isa.specs.Registers.{access_of};
-ghost use Rattle.om_isa.specs.SystemCall.{heap_call, read_call, write_call, take_call, put_call, numbered_call, Takes, Resizes, heap_limit};
+ghost use Rattle.om_isa.specs.SystemCall.{Takes, heap_limit};
 ghost use Rattle.om_isa.specs.declared.instr.Instr.TheVariants as instr;
 ghost use Rattle.om_prog.specs.Act.{Plain, Lit, GpHi, GpLo, To};
 ghost use Rattle.om_prog.specs.Runs.{sym_start, step_if};
@@ -13,29 +13,29 @@ ghost use Rattle.om_prog.specs.View.{item_at};
 ghost use Rattle.om_prog.specs.Cells.{cells_of};
 ghost use Rattle.om_symrun.specs.Actions.{effect_in, spot_in, IsSpot, IsInside, IsDoable, holds};
 ghost use Rattle.om_symrun.specs.CellsIn.{size_bytes};
-ghost use Rattle.om_symrun.specs.Calls.{call_in, IsServed, view_bytes, view_room, descriptor_number, IsState, FailsToTake, CallsTo, IsAnswer, IsTaking, IsPutting, IsSpan, span_bytes};
+ghost use Rattle.om_symrun.specs.Calls.{IsState, FailsToTake, CallsTo, IsAnswer, IsTaking, IsPutting, IsSpan, span_bytes};
 ghost use Rattle.om_symrun.specs.Memory.{memory_size, heap_size};
 ghost use Rattle.om_symrun.specs.Streams.{Puts, Told};
 ghost use Rattle.om_symrun.specs.Steps.{StepsTo, RunsTo, IsCallNext};
 ghost use Rattle.om_symrun.specs.View.{state_of, end_of, register_in, view_script, view_state, view_register, view_effect, view_call, view_step};
 
+mod asking;
+
 use crate::actions::{
-    Action, Spot, accessed, can_hold, extended, is_code, is_gp, is_half, lies_within, next_place,
-    scaled, size_of_op, spot_of_number, spot_of_pointer, value_of,
+    Action, Spot, accessed, can_hold, extended, is_code, is_gp, is_half, moved, next_place, scaled,
+    size_of_op, spot_of_number, spot_of_pointer, value_of,
 };
 use crate::memory::Memory;
 use crate::requests::{Descriptor, Request, Span};
 use crate::starting::{first_memory, first_registers, set_register};
 use crate::streams::{put_all, take_all};
-use om_alpha::{AluOp, Cond, Size, TrapKind, overflows};
+use om_alpha::{AluOp, Cond, Size, TrapKind, alu, overflows};
 use om_io::{NoMemory, Sink, Source};
 use om_isa::{Access, BrOp, Instr, MemOp, Opnd, Reg, access_kind};
 use om_prog::{Item, Program, Role};
-use om_value::{Place, Region, Target, Value, lift, lift_add, lift_cond};
+use om_value::{Place, Region, Target, Value, lift, lift_cond};
 use std::alloc::Global;
 use std::marker::Model;
-
-const HEAP_LIMIT: u64 = 0x100_0000;
 
 /// What a step answers.
 #[derive(Clone, Copy, PartialEq, Eq, Debug)]
@@ -201,7 +201,7 @@ impl SymRun<'_> {
         ensures value { effect_in result ≡ def.memory_effect (view_script self.now) (view_state self.now) Access.Address op ra base disp }
         ensures doable { IsDoable self.now.memory result }
     {
-        match lift_add(base, scaled(op, disp)) {
+        match moved(base, scaled(op, disp)) {
             Some(v) => Action::Set(ra.num(), v),
             None => Action::Observe,
         }
@@ -217,12 +217,12 @@ impl SymRun<'_> {
                 if ra.num() == 31 {
                     return Action::Nothing;
                 }
-                match lift_add(base, i64::from(disp)) {
+                match moved(base, i64::from(disp)) {
                     Some(v) => self.load_action(op, ra, accessed(op, v)),
                     None => Action::Observe,
                 }
             }
-            Access::Store => match lift_add(base, i64::from(disp)) {
+            Access::Store => match moved(base, i64::from(disp)) {
                 Some(v) => self.store_action(op, self.register(ra), accessed(op, v)),
                 None => Action::Observe,
             },
@@ -238,10 +238,26 @@ impl SymRun<'_> {
         }
     }
 
+    // An operation on two numbers.
+    #[tactic(auto, unfolding(om_value::specs::Lift::lifted, om_value::specs::Lift::on_numbers))]
+    fn number_action(&self, op: AluOp, m: u64, n: u64, rc: Reg) -> Action
+        ensures value { effect_in result ≡ def.alu_effect (view_script self.now) (view_state self.now) op (Value.Num m) (Value.Num n) rc }
+        ensures doable { IsDoable self.now.memory result }
+    {
+        if overflows(op, m, n) {
+            Action::Stop(TrapKind::Overflow)
+        } else {
+            Action::Set(rc.num(), Value::Num(alu(op, m, n)))
+        }
+    }
+
     fn alu_action(&self, op: AluOp, a: Value, b: Value, rc: Reg) -> Action
         ensures value { effect_in result ≡ def.alu_effect (view_script self.now) (view_state self.now) op a b rc }
         ensures doable { IsDoable self.now.memory result }
     {
+        if let (Value::Num(m), Value::Num(n)) = (a, b) {
+            return self.number_action(op, m, n, rc);
+        }
         if self.overflows_on(op, a, b) {
             return Action::Stop(TrapKind::Overflow);
         }
@@ -485,163 +501,6 @@ impl SymRun<'_> {
         }
     }
 
-    fn heap_request(&self, a0: Value) -> Request
-        ensures value { call_in self.now result ≡ heap_call (heap_size self.now.memory) (def.heap_ask (view_script self.now) (view_state self.now) a0) }
-        ensures served { IsServed self.now result }
-    {
-        match a0 {
-            Value::Num(n) => {
-                if n == 0 {
-                    Request::HeapEnd
-                } else if n < 0x1_0000 {
-                    Request::Answer(12, 1)
-                } else {
-                    Request::Observe
-                }
-            }
-            Value::Ptr {
-                region: Region::Heap,
-                off,
-            } => {
-                if off <= HEAP_LIMIT {
-                    Request::Resize(off)
-                } else if off < 0x8000_0000_0000_0000 {
-                    Request::Answer(12, 1)
-                } else {
-                    Request::Observe
-                }
-            }
-            _ => Request::Observe,
-        }
-    }
-
-    fn read_request(&self, a0: u64, n: u64) -> Request
-        ensures value { call_in self.now result ≡ read_call (view_bytes self.now) (view_room self.now) a0 (Some n) }
-        ensures served { IsServed self.now result }
-    {
-        if a0 != 0 {
-            Request::Answer(9, 1)
-        } else if n == 0 {
-            Request::Answer(0, 0)
-        } else {
-            self.take_request(n)
-        }
-    }
-
-    fn take_request(&self, n: u64) -> Request
-        ensures value { call_in self.now result ≡ take_call n (view_room self.now n) }
-        ensures served { IsServed self.now result }
-    {
-        match self.registers[17] {
-            Value::Num(a) => {
-                if a < 0x1_0000 {
-                    Request::Answer(14, 1)
-                } else {
-                    Request::Observe
-                }
-            }
-            Value::Ptr { region, off } => {
-                if lies_within(off, n, self.memory.size(region)) {
-                    Request::Take(Span {
-                        region,
-                        at: off,
-                        count: n,
-                    })
-                } else {
-                    Request::Observe
-                }
-            }
-            _ => Request::Observe,
-        }
-    }
-
-    fn put_request(&self, descriptor: Descriptor, n: u64) -> Request
-        ensures value { call_in self.now result ≡ write_call (view_bytes self.now) (view_room self.now) (descriptor_number descriptor) (Some n) }
-        ensures served { IsServed self.now result }
-    {
-        if n == 0 {
-            return Request::Answer(0, 0);
-        }
-        match self.registers[17] {
-            Value::Num(a) => {
-                if a < 0x1_0000 {
-                    Request::Answer(14, 1)
-                } else {
-                    Request::Observe
-                }
-            }
-            Value::Ptr { region, off } => {
-                if lies_within(off, n, self.memory.size(region))
-                    && self.memory.are_bytes(region, off, n)
-                {
-                    Request::Put(
-                        descriptor,
-                        Span {
-                            region,
-                            at: off,
-                            count: n,
-                        },
-                    )
-                } else {
-                    Request::Observe
-                }
-            }
-            _ => Request::Observe,
-        }
-    }
-
-    fn write_request(&self, a0: u64, n: u64) -> Request
-        ensures value { call_in self.now result ≡ write_call (view_bytes self.now) (view_room self.now) a0 (Some n) }
-        ensures served { IsServed self.now result }
-    {
-        if a0 == 1 {
-            self.put_request(Descriptor::Out, n)
-        } else if a0 == 2 {
-            self.put_request(Descriptor::Err, n)
-        } else {
-            Request::Answer(9, 1)
-        }
-    }
-
-    // What a system call asks for that has a number in a0.
-    fn numbered_request(&self, v0: u64, a0: u64) -> Request
-        ensures value { call_in self.now result ≡ numbered_call (view_bytes self.now) (view_room self.now) v0 (Some a0) (def.number (view_register self.now 18)) }
-        ensures served { IsServed self.now result }
-    {
-        if v0 == 1 {
-            Request::Exit((a0 % 256) as u8)
-        } else if v0 == 3 {
-            match self.registers[18] {
-                Value::Num(n) => self.read_request(a0, n),
-                _ => Request::Observe,
-            }
-        } else if v0 == 4 {
-            match self.registers[18] {
-                Value::Num(n) => self.write_request(a0, n),
-                _ => Request::Observe,
-            }
-        } else {
-            Request::Answer(78, 1)
-        }
-    }
-
-    /// What the system call asks for, by the registers that it uses.
-    fn request(&self) -> Request
-        ensures value { call_in self.now result ≡ view_call self.now }
-        ensures served { IsServed self.now result }
-    {
-        let Value::Num(v0) = self.registers[0] else {
-            return Request::Observe;
-        };
-        if v0 == 17 {
-            return self.heap_request(self.registers[16]);
-        }
-        match self.registers[16] {
-            Value::Num(a0) => self.numbered_request(v0, a0),
-            _ => Request::Observe,
-        }
-    }
-
     /// Sets v0 and a3, and the next word follows.
     fn answer(&mut self, v0: Value, a3: u64)
         requires { self.old.place.off + 4 < 2 ^ 32 }
@@ -683,10 +542,35 @@ impl SymRun<'_> {
     }
 
     /// Ends the run with a status.
-    fn exit(&mut self, status: u8)
-        ensures { self.new ≡ record self.old { end = Some (Ending.Exited status) } }
+    fn exit(&mut self, status: u8) -> SymStep
+        ensures answer { result ≡ SymStep.Exit status }
+        ensures end { self.new ≡ record self.old { end = Some (Ending.Exited status) } }
     {
         self.end = Some(Ending::Exited(status));
+        SymStep::Exit(status)
+    }
+
+    /// Ends the run at its place, where the next step would show an address.
+    fn end_observed(&mut self) -> SymStep
+        ensures answer { result ≡ SymStep.Observes self.old.place }
+        ensures end { self.new ≡ record self.old { end = Some (Ending.Observed self.old.place) } }
+    {
+        let at = self.place;
+        self.observe();
+        SymStep::Observes(at)
+    }
+
+    /// Answers where the heap ends.
+    fn answer_heap_end(&mut self)
+        requires { self.old.place.off + 4 < 2 ^ 32 }
+        ensures state { (input out err : List ℕ) → state_of self.new input out err
+            ≡ answers (state_of self.old input out err) self.old.place (Value.Ptr Region.Heap (heap_size self.old.memory)) 0 }
+        ensures end { self.new.end ≡ self.old.end }
+        ensures program { self.new.program ≡ self.old.program }
+    {
+        let off = self.memory.heap_size();
+        let region = Region::Heap;
+        self.answer(Value::Ptr { region, off }, 0);
     }
 
     /// Takes bytes of the input to a range: whether no read failed.
@@ -770,10 +654,7 @@ impl SymRun<'_> {
         ensures program { self.new.program ≡ self.old.program }
     {
         match self.request() {
-            Request::Exit(status) => {
-                self.exit(status);
-                SymStep::Exit(status)
-            }
+            Request::Exit(status) => self.exit(status),
             Request::Answer(v0, a3) => {
                 self.answer(Value::Num(v0), a3);
                 SymStep::Went
@@ -800,25 +681,14 @@ impl SymRun<'_> {
                 }
             }
             Request::HeapEnd => {
-                let off = self.memory.heap_size();
-                self.answer(
-                    Value::Ptr {
-                        region: Region::Heap,
-                        off,
-                    },
-                    0,
-                );
+                self.answer_heap_end();
                 SymStep::Went
             }
             Request::Resize(size) => match self.resize(size) {
                 Ok(()) => SymStep::Went,
                 Err(NoMemory) => SymStep::NoMemory,
             },
-            Request::Observe => {
-                let at = self.place;
-                self.observe();
-                SymStep::Observes(at)
-            }
+            Request::Observe => self.end_observed(),
         }
     }
 

@@ -1,4 +1,4 @@
-use Rattle.std.proofs.Common.{◌≡◌, List, sym, subst, ◌∙◌}
+use Rattle.std.proofs.Common.{List, sym, subst}
 use Rattle.std.specs.BTreeMap.{get}
 use Rattle.om_prog.specs.Keys.{region_cmp}
 use Rattle.om_prog.specs.declared.region.RegionInit.{RegionInit}

@@ -1,6 +1,5 @@
-use Rattle.std.proofs.Common.{◌≡◌, ◌<◌, ◌+◌, ◌-◌, ℕ, Some, length, drop, List, ◌∷◌, refl, ap, sym, subst, ◌∙◌, arith}
+use Rattle.std.proofs.Common.{◌≡◌, ◌<◌, ◌+◌, ◌-◌, length, drop, List, ◌∷◌, refl, ap, sym, subst, ◌∙◌, arith}
 use Rattle.std.specs.BTreeMap.{get}
-use Rattle.std.specs.List.{slice_get}
 use Rattle.std.proofs.lemmas.Option.{slice_get_read}
 use Rattle.om_value.specs.Same.{region_eq}
 use Rattle.om_prog.specs.declared.region.RegionInit.{RegionInit}

@@ -1,4 +1,4 @@
-use Rattle.std.proofs.Common.{◌≡◌, ℕ, List, ◌≤◌, ◌-◌, length, Some}
+use Rattle.std.proofs.Common.{◌≡◌, ℕ, List, ◌≤◌, ◌-◌, Some}
 use Rattle.om_value.specs.declared.value.Region.{Region}
 use Rattle.om_symrun.specs.Memory.{memory_size}
 use Rattle.om_symrun.specs.Streams.{TakesFront}

@@ -1,4 +1,4 @@
-use Rattle.std.proofs.Common.{◌≡◌, ◌≤◌, ◌<◌, ℕ, true, length, refl, sym, subst, ◌∙◌, arith, rules}
+use Rattle.std.proofs.Common.{◌≡◌, ◌≤◌, true, length, refl, subst, arith, rules}
 use Rattle.std.specs.Result.{is_ok}
 use Rattle.std.specs.Vec.{vec_len}
 use Rattle.om_symrun.specs.RegionCells.{RegionCells}

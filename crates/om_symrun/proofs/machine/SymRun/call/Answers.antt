@@ -2,8 +2,8 @@ use Rattle.std.proofs.Common.{◌∙◌, ap, subst, sym, refl, inl, inr}
 use Rattle.om_isa.specs.SystemCall.{Call, Puts}
 use Rattle.om_value.specs.declared.value.Value.TheVariants.{Num}
 use Rattle.om_prog.specs.Step.{calls}
-use Rattle.om_symrun.specs.Calls.{IsState, FailsToPut, descriptor_number, span_bytes, region_bytes}
-use Rattle.om_symrun.specs.View.{View, view_register}
+use Rattle.om_symrun.specs.Calls.{IsState, FailsToPut, descriptor_number, span_bytes}
+use Rattle.om_symrun.specs.View.{view_register}
 use Rattle.om_symrun.specs.Memory.{heap_size}
 use Rattle.om_symrun.specs.declared.requests.Descriptor.{Descriptor}
 use Rattle.om_symrun.proofs.Calling.{answers_state, heap_end_state, resizes_state, same_state_is, puts_out, puts_err, fails_out, fails_err, length-region_bytes}
@@ -16,8 +16,8 @@ returns-in-Answer-clause-calls g c = λ s ot et h.
 
 pub returns-in-HeapEnd-clause-calls : goal.returns-in-HeapEnd-clause-calls
 returns-in-HeapEnd-clause-calls g c = λ s ot et h.
-    subst (λ (k : Call). IsState c.answer-in-HeapEnd.new.self (g.I.Source.left c.args.input.now) (ot, g.O.Sink.written c.args.out.now) (et, g.E.Sink.written c.args.err.now) (calls s s.place k (view_register c.args.self.now 17))) c.in-HeapEnd.ensures.value
-    (heap_end_state c.args.self.now c.answer-in-HeapEnd.new.self (g.I.Source.left c.args.input.now) (ot, g.O.Sink.written c.args.out.now) (et, g.E.Sink.written c.args.err.now) s h c.heap_size-off.result (c.heap_size-off.ensures ∙ ap (λ (x : View). heap_size x.memory) c.self.view_is) c.answer-in-HeapEnd.ensures.state)
+    subst (λ (k : Call). IsState c.answer_heap_end.new.self (g.I.Source.left c.args.input.now) (ot, g.O.Sink.written c.args.out.now) (et, g.E.Sink.written c.args.err.now) (calls s s.place k (view_register c.args.self.now 17))) c.in-HeapEnd.ensures.value
+    (heap_end_state c.args.self.now c.answer_heap_end.new.self (g.I.Source.left c.args.input.now) (ot, g.O.Sink.written c.args.out.now) (et, g.E.Sink.written c.args.err.now) s h (heap_size c.args.self.now.memory) refl c.answer_heap_end.ensures.state)
 
 pub returns-in-Ok-clause-calls : goal.returns-in-Ok-clause-calls
 returns-in-Ok-clause-calls g c = λ s ot et h.

@@ -1,4 +1,4 @@
-use Rattle.std.proofs.Common.{◌≡◌, ◌∙◌, ap, subst, sym, Ok}
+use Rattle.std.proofs.Common.{◌∙◌, ap, subst, sym, Ok}
 use Rattle.om_symrun.specs.Calls.{IsState, CallsTo}
 use Rattle.om_symrun.specs.Streams.{Told}
 use Rattle.om_symrun.specs.View.{View}

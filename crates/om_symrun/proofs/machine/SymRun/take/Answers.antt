@@ -1,4 +1,4 @@
-use Rattle.std.proofs.Common.{◌≡◌, ℕ, ◌∙◌, ap, subst, Ok, Err}
+use Rattle.std.proofs.Common.{ℕ, ◌∙◌, ap, subst, Ok, Err}
 use Rattle.om_value.specs.declared.value.Value.TheVariants.{Num}
 use Rattle.om_prog.specs.Step.{answers}
 use Rattle.om_symrun.specs.Streams.{Takes}
