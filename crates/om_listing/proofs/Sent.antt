@@ -5,7 +5,7 @@ use Rattle.std.proofs.lemmas.Bool.{true≢false}
 use Rattle.om_io.specs.Causes.{HasCause}
 use Rattle.om_io.specs.Outside.{Appends}
 use Rattle.om_fields.specs.Bytes.{Grows}
-use Rattle.om_listing.specs.Sending.{IsSent, SentBy, Sends}
+use Rattle.om_listing.specs.Sending.{IsSent, Sends}
 
 -- a text behind one of which a part is put
 sent_on : {old p0 a b : List ℕ} {now1 now2 : Option (List ℕ)} {p1 p2 : List ℕ} (s : IsSent old p0 a now1 p1) →

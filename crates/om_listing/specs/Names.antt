@@ -1,5 +1,5 @@
 -- The names of operations (Alpha Architecture Handbook, chapter 4, in lower case).
-use Rattle.std.specs.Prelude.{ℕ, List, ◌++◌, codes}
+use Rattle.std.specs.Prelude.{ℕ, List, codes}
 use Rattle.om_alpha.specs.declared.op.Width.TheVariants.{Long, Quad}
 use Rattle.om_alpha.specs.declared.op.Scale.TheVariants.{One, Four, Eight}
 use Rattle.om_alpha.specs.declared.op.Cmp.TheVariants as cmp

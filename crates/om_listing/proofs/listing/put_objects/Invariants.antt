@@ -1,4 +1,4 @@
-use Rattle.std.proofs.Common.{◌≡◌, take, Ok, ℕ, List, Option}
+use Rattle.std.proofs.Common.{◌≡◌, take, Ok}
 use Rattle.om_io.specs.declared.causes.Failed.{Failed}
 use Rattle.om_listing.specs.Listing.{object_lines, word_count}
 use Rattle.om_listing.specs.Sending.{Sends}
