@@ -1,0 +1,4 @@
+pub mod Placing
+pub mod Sent
+pub mod Done
+pub mod Steps

@@ -1,0 +1,5 @@
+pub mod Names
+pub mod Texts
+pub mod Listing
+pub mod Sending
+pub mod Rows

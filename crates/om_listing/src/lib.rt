@@ -1,0 +1,15 @@
+//! The listing of an image: a line for each source word that was changed or is gone, and the totals.
+#![tactic(auto)]
+
+mod lines;
+mod listing;
+mod names;
+mod page;
+mod sending;
+#[cfg(test)]
+mod test_tables;
+#[cfg(test)]
+mod tests;
+mod texts;
+
+pub use listing::list;
