@@ -1,0 +1,3 @@
+//! The layout of a graph: where its words, its global address tables and its regions stand in an image; in specs/ what a
+//! layout says, and which layout is that of a graph.
+#![tactic(auto)]
