@@ -1,0 +1,5 @@
+pub mod Halves
+pub mod Data
+pub mod Text
+pub mod Fields
+pub mod TrueMap
