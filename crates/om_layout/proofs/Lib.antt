@@ -1,0 +1,5 @@
+pub mod Sorted
+pub mod Placing
+pub mod Numbers
+pub mod Natural
+pub mod Runs

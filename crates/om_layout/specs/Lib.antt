@@ -1,4 +1,5 @@
 pub mod Layout
 pub mod Order
 pub mod Facts
+pub mod Laws
 pub mod Rows
