@@ -76,13 +76,10 @@ module _ (l : LayoutView) where
   value_bytes (value.GpOff o t) = little_bytes 4 (cast_unsigned w32 (from_gp l o t))
   value_bytes _ = []
 
-  -- the distance fits its field
-  abbrev pub FieldFits : Field → Type 0
-  FieldFits f = DistanceFits f.value
-    where
-      DistanceFits : Value → Type 0
-      DistanceFits (value.GpOff o t) = FitsSigned w32 (from_gp l o t)
-      DistanceFits _ = Unit {0}
+  -- a distance fits its field
+  abbrev pub DistanceFits : Value → Type 0
+  DistanceFits (value.GpOff o t) = FitsSigned w32 (from_gp l o t)
+  DistanceFits _ = Unit {0}
 
   -- a field hides the bytes under it
   abbrev pub field_byte : List ℕ → ℕ → Option Field → ℕ
@@ -141,7 +138,7 @@ pub record DataIsTrue (p : ProgramView) (g : GraphView) (l : LayoutView) (i : Im
   -- each region holds its bytes and fields
   pub contents :
       All (λ r. (x : ℕ) → x < r.size → data_byte i (region_at l r.region + x) ≡ region_byte l r x) p.regions
-  pub fits : All (λ r. All (λ f. FieldFits l f) r.fields) p.regions
+  pub fits : All (λ r. All (λ f. DistanceFits l f.value) r.fields) p.regions
   pub widths : HasWidths p
   -- and all else is 0
   pub others : (a : ℕ) → data_base ≤ a → (InSlot l a → ⊥) → (InRegion l a → ⊥) → data_byte i a ≡ 0

@@ -3,3 +3,4 @@ pub mod Data
 pub mod Text
 pub mod Fields
 pub mod TrueMap
+pub mod Runs
