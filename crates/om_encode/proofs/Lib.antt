@@ -7,3 +7,5 @@ pub mod Regions
 pub mod Start
 pub mod Standing
 pub mod Whole
+pub mod Sentences
+pub mod Linked

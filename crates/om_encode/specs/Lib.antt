@@ -4,3 +4,4 @@ pub mod Text
 pub mod Fields
 pub mod TrueMap
 pub mod Runs
+pub mod Headline
