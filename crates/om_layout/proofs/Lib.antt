@@ -3,3 +3,4 @@ pub mod Placing
 pub mod Numbers
 pub mod Natural
 pub mod Runs
+pub mod Counting

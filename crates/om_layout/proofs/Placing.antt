@@ -44,7 +44,7 @@ not_before_self v p e = grind (arith, nat_tests)
 
 -- ---- words after a word
 
-later_is : (v : Word) (ws : List Word) (w : Word) → IsBeforeAll v ws → Has ws w → place_lt v.at w.at ≡ true
+pub later_is : (v : Word) (ws : List Word) (w : Word) → IsBeforeAll v ws → Has ws w → place_lt v.at w.at ≡ true
 later_is v [] w h k = absurd k
 later_is v (x ∷ xs) w h (inl e) = subst (λ y. place_lt v.at y.at ≡ true) e h.0
 later_is v (x ∷ xs) w h (inr k) = later_is v xs w h.1 k
