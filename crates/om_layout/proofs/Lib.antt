@@ -4,3 +4,5 @@ pub mod Numbers
 pub mod Natural
 pub mod Runs
 pub mod Counting
+pub mod Slots
+pub mod Limits

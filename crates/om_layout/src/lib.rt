@@ -4,4 +4,4 @@
 
 mod laws;
 
-pub use laws::{layouts_place_words, runs_place_words};
+pub use laws::{layouts_place_words, layouts_stay_in_limits, runs_place_words};
