@@ -9,3 +9,5 @@ pub mod Standing
 pub mod Whole
 pub mod Sentences
 pub mod Linked
+pub mod Fitting
+pub mod Rows

@@ -232,7 +232,7 @@ module _ (p : ProgramView) (l : LayoutView) (sizes : SizesMatch p l) (tables : P
   region_apart Stack Heap x y hx hy e = absurd (omega (arith, hx, hy, e))
   region_apart Heap Stack x y hx hy e = absurd (omega (arith, hx, hy, e))
 
-  table_start : (k : ℕ) → (data_base ≤ start_at l k) × (start_at l k ≤ data_base + 67108864)
+  pub table_start : (k : ℕ) → (data_base ≤ start_at l k) × (start_at l k ≤ data_base + 67108864)
   table_start k = by_got (slice_get l.tables k) refl
     where
       by_got : (o : Option TableAt) → slice_get l.tables k ≡ o → (data_base ≤ start_or (slice_get l.tables k)) × (start_or (slice_get l.tables k) ≤ data_base + 67108864)

@@ -66,7 +66,7 @@ below_data : (a : ℕ) → a < data_base → nat_le data_base a ≡ false
 below_data a h = grind (arith, nat_tests)
 
 -- all of a list's elements have what each has by its place
-all_of : {A : Type 0} (P : A → Type 0) (xs : List A) → ((k : ℕ) (x : A) → slice_get xs k ≡ Some x → P x) → All P xs
+pub all_of : {A : Type 0} (P : A → Type 0) (xs : List A) → ((k : ℕ) (x : A) → slice_get xs k ≡ Some x → P x) → All P xs
 all_of P [] h k d lt = absurd (omega arith)
 all_of P (x ∷ xs) h zero d lt = h 0 x refl
 all_of P (x ∷ xs) h (suc k) d lt = all_of P xs (λ j y e. h (suc j) y e) k d (omega (arith, lt))

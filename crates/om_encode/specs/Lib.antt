@@ -5,3 +5,5 @@ pub mod Fields
 pub mod TrueMap
 pub mod Runs
 pub mod Headline
+pub mod Fitting
+pub mod Rows
