@@ -1,6 +1,6 @@
 -- Between two places as many words are kept at most as there are.
-use Rattle.std.proofs.Common.{◌≡◌, ◌⊎◌, inl, inr, ℕ, zero, suc, ◌+◌, ◌-◌, ◌*◌, ◌/◌, ◌%◌, ◌<◌, ◌≤◌, Bool, true, false, cond, List, [], ◌∷◌, length, refl, ap, sym, subst, ◌∙◌, arith}
-use Rattle.std.specs.Prelude.{sum, take, min, slice_index_or, ℤ, pos, ◌-ℤ◌}
+use Rattle.std.proofs.Common.{◌≡◌, ◌⊎◌, inl, inr, ℕ, zero, suc, ◌+◌, ◌-◌, ◌/◌, ◌%◌, ◌<◌, ◌≤◌, Bool, true, false, cond, List, [], ◌∷◌, length, refl, ap, sym, subst, ◌∙◌, arith}
+use Rattle.std.specs.Prelude.{sum, take, min, slice_index_or, pos, ◌-ℤ◌}
 use Rattle.std.proofs.lemmas.List.Sums.{sum_by-cons}
 use Rattle.std.proofs.lemmas.Int.{ints}
 use Rattle.std.proofs.lemmas.Bool.Decides.{nat_tests}
@@ -11,7 +11,7 @@ use Rattle.om_graph.specs.View.{Has, place_lt}
 use Rattle.om_graph.specs.Index.{index_of, InReach}
 use Rattle.om_graph.proofs.Labels.{lt_cases}
 use Rattle.om_layout.specs.Order.{words_before}
-use Rattle.om_layout.specs.Facts.{IsBeforeAll, AreSorted}
+use Rattle.om_layout.specs.Facts.{AreSorted}
 use Rattle.om_layout.proofs.Sorted.{AreWordsOf}
 use Rattle.om_layout.proofs.Placing.{later_is}
 

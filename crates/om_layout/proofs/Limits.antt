@@ -1,11 +1,10 @@
 -- Within the limits of a program its data lies below the next part of memory.
-use Rattle.std.proofs.Common.{◌≡◌, ◌⊎◌, inl, inr, ℕ, zero, suc, ◌+◌, ◌-◌, ◌*◌, ◌/◌, ◌<◌, ◌≤◌, max, List, [], ◌∷◌, length, Some, refl, ap, sym, subst, ◌∙◌, arith}
-use Rattle.std.specs.Prelude.{map, sum, sum_by, slice_get, IsPermutation}
+use Rattle.std.proofs.Common.{◌≡◌, ℕ, suc, ◌+◌, ◌*◌, ◌<◌, ◌≤◌, max, List, [], ◌∷◌, length, Some, refl, ap, sym, ◌∙◌, arith}
+use Rattle.std.specs.Prelude.{map, sum, sum_by, slice_get}
 use Rattle.std.proofs.lemmas.List.Sums.{sum_by-cons}
 use Rattle.std.proofs.lemmas.List.Sorted.{sum_by-IsPermutation, length_permutation}
 use Rattle.om_value.specs.declared.value.Region.{Region}
 use Rattle.om_prog.specs.declared.item.Item.{Item}
-use Rattle.om_prog.specs.declared.region.RegionInit.{RegionInit}
 use Rattle.om_prog.specs.View.{ProgramView}
 use Rattle.om_prog.specs.Valid.{IsProgram}
 use Rattle.om_graph.specs.View.{GraphView}
@@ -13,7 +12,7 @@ use Rattle.om_graph.specs.Run.{words}
 use Rattle.om_graph.specs.OfProgram.{IsGraphOf}
 use Rattle.om_graph.proofs.OfProgram.{map_length}
 use Rattle.om_layout.specs.Layout.{LayoutView, TableAt, RegionAt, data_base}
-use Rattle.om_layout.specs.Order.{round_16, table_count, slots_of, extent_at, extent_of, tables_end, regions_end, IsDataLayout}
+use Rattle.om_layout.specs.Order.{round_16, table_count, extent_at, extent_of, tables_end, regions_end, IsDataLayout}
 use Rattle.om_layout.specs.Limits.{IsWithinLimits, StaysInLimits}
 use Rattle.om_layout.proofs.Sorted.{words_of}
 use Rattle.om_layout.proofs.Counting.{few_words}

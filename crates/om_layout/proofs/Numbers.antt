@@ -1,6 +1,6 @@
 -- The places of words and of texts' ends, numbered: each number below their count is that of one.
-use Rattle.std.proofs.Common.{◌≡◌, ℕ, zero, suc, ◌+◌, ◌-◌, ◌*◌, ◌/◌, ◌%◌, ◌<◌, ◌≤◌, List, [], ◌∷◌, length, refl, ap, sym, subst, ◌∙◌, arith}
-use Rattle.std.specs.Prelude.{sum, take, min, slice_index_or}
+use Rattle.std.proofs.Common.{◌≡◌, ℕ, suc, ◌+◌, ◌-◌, ◌*◌, ◌/◌, ◌<◌, ◌≤◌, List, [], ◌∷◌, arith}
+use Rattle.std.specs.Prelude.{take, min}
 use Rattle.std.proofs.lemmas.List.Sums.{sum_by-cons}
 use Rattle.std.proofs.Math.Decide.{dec_le}
 use Rattle.om_value.specs.declared.value.Place.{Place}

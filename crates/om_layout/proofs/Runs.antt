@@ -1,10 +1,9 @@
 -- Runs of words in any order are positions too.
-use Rattle.std.proofs.Common.{◌≡◌, ◌⊎◌, inl, inr, ℕ, zero, suc, ◌+◌, ◌-◌, ◌*◌, ◌/◌, ◌%◌, ◌<◌, ◌≤◌, Bool, true, false, cond, List, [], ◌∷◌, length, Option, Some, None, refl, ap, sym, subst, ◌∙◌, arith}
+use Rattle.std.proofs.Common.{◌≡◌, ℕ, zero, suc, ◌+◌, ◌<◌, ◌≤◌, List, [], ◌∷◌, length, ap, sym, subst, ◌∙◌, arith}
 use Rattle.std.specs.Prelude.{slice_get}
 use Rattle.om_value.specs.declared.value.Place.{Place}
 use Rattle.om_prog.specs.Act.{Word}
 use Rattle.om_prog.specs.Step.{next_place}
-use Rattle.om_graph.specs.Run.{next_word}
 use Rattle.om_layout.specs.Order.{words_before}
 use Rattle.om_graph.specs.View.{Has}
 use Rattle.om_layout.specs.Facts.{ArePositions, AreRuns, start_of, run_at, total_of, run_position}

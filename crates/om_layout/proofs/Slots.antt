@@ -1,17 +1,16 @@
 -- The slots of a table are as few as its loads' targets are.
-use Rattle.std.proofs.Common.{◌≡◌, ◌⊎◌, inl, inr, ℕ, zero, suc, ◌+◌, ◌<◌, ◌≤◌, Bool, true, false, cond, ◌&&◌, ◌||◌, ◌==◌, List, [], ◌∷◌, ◌++◌, length, Option, Some, None, refl, ap, sym, subst, ◌∙◌, arith}
-use Rattle.std.specs.Prelude.{map, flat_map, slice_get}
+use Rattle.std.proofs.Common.{◌≡◌, ◌⊎◌, inl, inr, ℕ, suc, ◌≤◌, Bool, true, false, cond, ◌&&◌, ◌||◌, ◌==◌, List, [], ◌∷◌, ◌++◌, length, Option, Some, None, refl, ap, sym, subst, ◌∙◌, arith}
+use Rattle.std.specs.Prelude.{map, flat_map}
 use Rattle.std.specs.List.{list_any}
 use Rattle.std.proofs.lemmas.Bool.{eqb-true}
 use Rattle.std.proofs.lemmas.Bool.Decides.{nat_tests}
 use Rattle.om_isa.specs.declared.instr.Instr.{Instr}
 use Rattle.om_isa.specs.declared.instr.Instr.TheVariants.{Mem, Jump, Branch, Alu, Cmov, Misc, Fnop, Halt, Callsys}
-use Rattle.om_value.specs.declared.value.Place.{Place}
 use Rattle.om_value.specs.declared.value.Region.{Region}
 use Rattle.om_value.specs.declared.value.Region.TheVariants.{Sec, Common, Stack, Heap}
 use Rattle.om_value.specs.declared.value.Target.{Target}
 use Rattle.om_value.specs.declared.value.Target.TheVariants as target
-use Rattle.om_value.specs.Same.{place_eq, region_eq, target_eq}
+use Rattle.om_value.specs.Same.{region_eq, target_eq}
 use Rattle.om_prog.specs.Act as act
 use Rattle.om_prog.specs.Act.{Act, Word}
 use Rattle.om_prog.specs.View.{ProgramView}
@@ -21,14 +20,13 @@ use Rattle.om_graph.specs.declared.op.OpKind.{OpKind}
 use Rattle.om_graph.specs.declared.op.OpKind.TheVariants as op
 use Rattle.om_graph.specs.declared.op.Last.{Last}
 use Rattle.om_graph.specs.declared.op.Last.TheVariants.{Fall, Off, Br, Cond, Call, CallBy, JumpBy}
-use Rattle.om_graph.specs.View.{Block, GraphView, Has, ops_of}
-use Rattle.om_graph.specs.Run.{words, block_words, op_word, op_act, use_of, target_at, last_words, cond_act, table_of}
+use Rattle.om_graph.specs.View.{GraphView, Has, ops_of}
+use Rattle.om_graph.specs.Run.{words, op_word, op_act, use_of, target_at, last_words, cond_act, table_of}
 use Rattle.om_graph.specs.OfProgram.{IsGraphOf}
 use Rattle.om_graph.proofs.Labels.{HasIn, has_append, has_in, self_eq}
-use Rattle.om_graph.proofs.Places.{OfOp, of_op}
+use Rattle.om_graph.proofs.Places.{of_op}
 use Rattle.om_graph.proofs.OfProgram.{words_in_place}
 use Rattle.om_layout.specs.Order.{act_targets, word_targets, targets_of, firsts_onto, slots_of}
-
 
 -- ---- lists without an element twice
 

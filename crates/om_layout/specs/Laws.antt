@@ -1,5 +1,5 @@
 -- What layouts give to an encoder.
-use Rattle.std.specs.Prelude.{ℕ, Bool, IsTrue, List, length}
+use Rattle.std.specs.Prelude.{ℕ, Bool, IsTrue, List}
 use Rattle.om_value.specs.declared.value.Place.{Place}
 use Rattle.om_prog.specs.Act.{Word}
 use Rattle.om_prog.specs.View.{ProgramView}
