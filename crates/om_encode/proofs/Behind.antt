@@ -1,27 +1,27 @@
 -- Behind a label of the kept set a word stands in its text: the last word of a text is never gone.
-use Rattle.std.proofs.Common.{◌≡◌, ◌⊎◌, inl, inr, ℕ, zero, suc, ◌+◌, ◌-◌, ◌*◌, ◌/◌, ◌<◌, ◌≤◌, Bool, true, false, cond, List, [], ◌∷◌, ◌++◌, length, Option, Some, None, refl, ap, sym, subst, ◌∙◌, arith}
+use Rattle.std.proofs.Common.{◌≡◌, ◌⊎◌, inl, inr, ℕ, zero, suc, ◌+◌, ◌*◌, ◌/◌, ◌<◌, ◌≤◌, Bool, true, false, cond, List, [], ◌∷◌, ◌++◌, length, Some, None, refl, ap, sym, subst, ◌∙◌, arith}
 use Rattle.std.specs.Prelude.{map, slice_get, option_and_then, is_some, ◌==◌, ◌%◌}
 use Rattle.om_value.specs.declared.value.Place.{Place}
 use Rattle.om_prog.specs.declared.item.Item.{Item}
 use Rattle.om_prog.specs.Act.{Word}
-use Rattle.om_prog.specs.View.{ProgramView, item_at, is_word}
+use Rattle.om_prog.specs.View.{ProgramView, is_word}
 use Rattle.om_prog.specs.Step.{next_place}
 use Rattle.om_prog.specs.Valid.{IsProgram}
 use Rattle.om_graph.specs.declared.op.Op.{Op}
 use Rattle.om_graph.specs.declared.op.Last.{Last}
 use Rattle.om_graph.specs.declared.op.Last.TheVariants.{Fall, Off, Br, Cond, Call, CallBy, JumpBy}
 use Rattle.om_graph.specs.View.{Block, Shape, GraphView, Has, ops_of}
-use Rattle.om_graph.specs.Run.{block_words, all_words, words, shape_words, next_word, from_place, op_word, last_words}
+use Rattle.om_graph.specs.Run.{block_words, words, shape_words, next_word, from_place, op_word, last_words}
 use Rattle.om_graph.specs.Form.{label_after, text_size}
 use Rattle.om_graph.specs.Kept.{IsInKeptSet, IsBlock, IsEnd, KeptInBlocks, FallsOn, fall}
 use Rattle.om_graph.specs.Lifted.{Piece, cut, shape_of_piece, text_shapes, shapes_from, lifted_shapes}
 use Rattle.om_graph.specs.Landing.{begins}
-use Rattle.om_graph.specs.OfProgram.{IsGraphOf, AreKept, no_more, kept, gone, IsFollowed}
+use Rattle.om_graph.specs.OfProgram.{IsGraphOf, AreKept, gone}
 use Rattle.om_graph.proofs.Labels.{least_after, found_behind, is_true, true_is, in_all, append_left, append_right, has_label}
 use Rattle.om_graph.proofs.Fetching.{from_true, found_from, found_has}
 use Rattle.om_graph.proofs.Pieces.{Chain, piece_end, chain_obj}
-use Rattle.om_graph.proofs.LiftedWords.{item_word, text_words, text_start}
-use Rattle.om_graph.proofs.OfProgram.{IsShape, words_in_place, word_from, shape_word, shape_at, block_shape, cut_of, label_is, shape_obj, shape_some, shape_words_are, same_some, index_below, to_map}
+use Rattle.om_graph.proofs.LiftedWords.{text_words, text_start}
+use Rattle.om_graph.proofs.OfProgram.{IsShape, words_in_place, shape_at, block_shape, cut_of, label_is, shape_obj, shape_some, shape_words_are, to_map}
 
 -- ---- lists
 

@@ -1,5 +1,5 @@
 -- A load that became LDAH is found by its place.
-use Rattle.std.proofs.Common.{◌≡◌, ◌⊎◌, inl, inr, ℕ, ◌+◌, ◌<◌, ◌≤◌, Bool, true, false, cond, List, [], ◌∷◌, ◌++◌, Option, Some, None, refl, ap, sym, subst, ◌∙◌, arith, append_assoc}
+use Rattle.std.proofs.Common.{◌≡◌, inl, inr, Bool, true, false, cond, List, [], ◌∷◌, ◌++◌, Option, Some, None, refl, ap, sym, subst, ◌∙◌, arith, append_assoc}
 use Rattle.std.specs.Prelude.{map, ℤ}
 use Rattle.std.specs.Option.{option_or}
 use Rattle.om_value.specs.declared.value.Place.{Place}
@@ -7,8 +7,6 @@ use Rattle.om_value.specs.declared.value.Target.{Target}
 use Rattle.om_value.specs.Same.{place_eq}
 use Rattle.om_prog.specs.Act.{Word}
 use Rattle.om_graph.specs.declared.op.Op.{Op}
-use Rattle.om_graph.specs.declared.op.OpKind.{OpKind}
-use Rattle.om_graph.specs.declared.op.OpKind.TheVariants as kind
 use Rattle.om_graph.specs.View.{Block, GraphView, Has, ops_of}
 use Rattle.om_graph.specs.Run.{block_words, all_words, words, op_word, last_words}
 use Rattle.om_graph.specs.Form.{After, Ordered}

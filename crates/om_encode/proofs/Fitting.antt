@@ -1,10 +1,9 @@
 -- Slots, pairs, branches and distances fit.
-use Rattle.std.proofs.Common.{◌≡◌, ◌⊎◌, inl, inr, ℕ, zero, suc, ◌+◌, ◌-◌, ◌*◌, ◌/◌, ◌%◌, ◌^◌, ◌<◌, ◌≤◌, Bool, true, false, cond, ◌&&◌, nat_lt, nat_le, List, [], ◌∷◌, length, Option, Some, None, refl, ap, sym, subst, ◌∙◌, arith}
-use Rattle.std.specs.Prelude.{ℤ, pos, negsuc, ◌+ℤ◌, ◌-ℤ◌, ◌*ℤ◌, All, slice_get, find, FitsSigned}
+use Rattle.std.proofs.Common.{◌≡◌, ℕ, ◌+◌, ◌-◌, ◌*◌, ◌<◌, ◌≤◌, true, ◌&&◌, nat_lt, length, Option, Some, None, refl, ap, sym, subst, arith}
+use Rattle.std.specs.Prelude.{pos, ◌-ℤ◌, All, FitsSigned}
 use Rattle.std.specs.Int.{w16, w32}
 use Rattle.std.proofs.lemmas.Int.{ints}
 use Rattle.std.proofs.lemmas.Bool.{leb-true}
-use Rattle.std.proofs.lemmas.Bool.Decides.{nat_tests}
 use Rattle.om_isa.specs.Fields.{IsDisp}
 use Rattle.om_value.specs.declared.value.Place.{Place}
 use Rattle.om_value.specs.declared.value.Region.{Region}
@@ -20,23 +19,21 @@ use Rattle.om_prog.specs.View.{ProgramView, init_of, size_or_none}
 use Rattle.om_prog.specs.Valid.{IsProgram, is_given, width_of, is_near_target, is_up_to}
 use Rattle.om_graph.specs.View.{GraphView}
 use Rattle.om_graph.specs.Run.{words}
-use Rattle.om_graph.specs.Index.{InReach}
 use Rattle.om_graph.specs.OfProgram.{IsGraphOf}
 use Rattle.om_lockstep.proofs.Small.{and_true, cond_some, same_region}
-use Rattle.om_layout.specs.Layout.{LayoutView, TableAt, text_base, data_base, start_at, start_or, gp_at, gp_of, table_at, code_at, region_at, address_of, position_of}
-use Rattle.om_layout.specs.Order.{IsPlaceOf, IsLayoutOf, words_before, tables_end, regions_end}
+use Rattle.om_layout.specs.Layout.{LayoutView, start_at, start_or, gp_at, gp_of, table_at, code_at, address_of, position_of}
+use Rattle.om_layout.specs.Order.{IsLayoutOf, words_before}
 use Rattle.om_layout.specs.Limits.{IsWithinLimits, StaysInLimits}
 use Rattle.om_layout.proofs.Limits.{stays}
 use Rattle.om_layout.proofs.Natural.{lays_out}
 use Rattle.om_layout.proofs.Sorted.{words_of}
 use Rattle.om_layout.proofs.Counting.{reach}
-use Rattle.om_encode.specs.Halves.{high_part, from_base, from_gp}
+use Rattle.om_encode.specs.Halves.{high_part}
 use Rattle.om_encode.specs.Data.{DistanceFits}
 use Rattle.om_encode.specs.Fields.{Splits}
-use Rattle.om_encode.specs.Fitting.{low_part, branch_disp, AllFits, FitsInEveryLayout}
+use Rattle.om_encode.specs.Fitting.{low_part, AllFits, FitsInEveryLayout}
 use Rattle.om_encode.proofs.Extents.{SizesMatch, sizes_match}
 use Rattle.om_encode.proofs.Regions.{IsGiven, located, table_start, got_in}
-use Rattle.om_encode.proofs.Sources.{all_at}
 use Rattle.om_encode.proofs.Start.{find_all}
 use Rattle.om_encode.proofs.Whole.{all_of}
 

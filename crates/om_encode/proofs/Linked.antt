@@ -1,26 +1,24 @@
 -- An image that is linked runs as its program does.
-use Rattle.std.proofs.Common.{◌≡◌, ℕ, zero, suc, ◌+◌, ◌<◌, ◌≤◌, Bool, true, false, List, [], ◌∷◌, length, Option, Some, None, refl, ap, sym as back, subst, ◌∙◌, arith}
+use Rattle.std.proofs.Common.{◌≡◌, ℕ, zero, suc, ◌+◌, ◌≤◌, Bool, true, false, List, [], ◌∷◌, length, Option, Some, None, sym as back, subst, arith}
 use Rattle.std.specs.Prelude.{IsTrue, sum, not}
 use Rattle.om_value.specs.declared.value.Place.{Place}
 use Rattle.om_prog.specs.Act.{Script, Word}
 use Rattle.om_prog.specs.View.{ProgramView}
 use Rattle.om_prog.specs.Script.{program_script, program_run}
 use Rattle.om_prog.specs.Step.{SymState, SymEnd}
-use Rattle.om_prog.specs.Runs.{sym_run, trace, add_word, add_step, has_observed, is_clean, Alike}
+use Rattle.om_prog.specs.Runs.{sym_run, trace, add_word, add_step, has_observed, Alike}
 use Rattle.om_graph.specs.View.{GraphView}
 use Rattle.om_graph.specs.Run.{graph_script}
-use Rattle.om_graph.specs.LeftIn.{left, left_onto, is_left, left_in, Keeps}
+use Rattle.om_graph.specs.LeftIn.{left, left_onto, is_left, left_in}
 use Rattle.om_graph.specs.Whole.{IsWhole}
-use Rattle.om_graph.specs.OfProgram.{IsGraphOf}
 use Rattle.om_graph.proofs.Places.{in_labels}
 use Rattle.om_graph.proofs.Bound.{some_left}
-use Rattle.om_graph.proofs.LiftedOf.{lifted_of}
 use Rattle.om_graph.proofs.LiftedKept.{lifted_whole}
 use Rattle.om_graph.proofs.LiftedRun.{lifted_run}
 use Rattle.om_image.specs.declared.image.Image.{Image}
 use Rattle.om_layout.specs.Layout.{LayoutView}
 use Rattle.om_encode.specs.Halves.{addresses_of}
-use Rattle.om_encode.specs.Headline.{Follows, IsLinked, RunsAsProgram, LinkedImagesRun}
+use Rattle.om_encode.specs.Headline.{Follows, IsLinked, LinkedImagesRun}
 use Rattle.om_encode.proofs.Whole.{true_maps_run}
 use Rattle.om_encode.proofs.Sentences.{counted_gives_headline, follows_and_runs}
 

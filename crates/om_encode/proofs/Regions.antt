@@ -1,5 +1,5 @@
 -- The regions and tables of a layout are apart and mapped.
-use Rattle.std.proofs.Common.{◌≡◌, ◌⊎◌, inl, inr, ℕ, zero, suc, ◌+◌, ◌-◌, ◌*◌, ◌/◌, ◌%◌, ◌^◌, ◌<◌, ◌≤◌, Bool, true, false, cond, not, ◌&&◌, ◌||◌, ◌==◌, nat_lt, nat_le, List, [], ◌∷◌, length, Option, Some, None, refl, ap, sym, subst, ◌∙◌, arith}
+use Rattle.std.proofs.Common.{◌≡◌, ℕ, zero, suc, ◌+◌, ◌-◌, ◌*◌, ◌/◌, ◌%◌, ◌^◌, ◌<◌, ◌≤◌, Bool, true, false, cond, nat_le, List, [], ◌∷◌, length, Option, Some, None, refl, ap, sym, subst, ◌∙◌, arith}
 use Rattle.std.specs.Prelude.{slice_get, slice_index, find}
 use Rattle.std.proofs.lemmas.Bool.Decides.{nat_tests}
 use Rattle.om_value.specs.declared.value.Region.{Region}
@@ -8,7 +8,6 @@ use Rattle.om_value.specs.declared.value.Target.{Target}
 use Rattle.om_value.specs.declared.value.Target.TheVariants as target
 use Rattle.om_value.specs.Same.{region_eq}
 use Rattle.om_value.specs.declared.value.Place.{Place}
-use Rattle.om_prog.specs.declared.region.RegionInit.{RegionInit}
 use Rattle.om_prog.specs.View.{ProgramView, init_of, size_or_none, size_of}
 use Rattle.om_prog.specs.Act.{Act, Plain, Lit, GpHi, GpLo, To, AddrLda, AddrHi, UseLo, UseGp, Wrong, Word}
 use Rattle.om_prog.specs.Script.{program_fetch}
@@ -18,12 +17,11 @@ use Rattle.om_graph.specs.View.{GraphView}
 use Rattle.om_graph.specs.Run.{graph_script}
 use Rattle.om_image.specs.declared.image.Image.{Image}
 use Rattle.om_image.specs.NumAccess.{is_mapped}
-use Rattle.om_image.specs.NumStep.{data_size, start_memory}
-use Rattle.om_lockstep.specs.Addresses.{Addresses, IsLaidOut, target_number}
-use Rattle.om_lockstep.specs.Goes.{IsFixed, most_of}
+use Rattle.om_image.specs.NumStep.{data_size}
+use Rattle.om_lockstep.specs.Addresses.{IsLaidOut, target_number}
 use Rattle.om_lockstep.specs.Forms.{IsSlot}
 use Rattle.om_lockstep.proofs.Small.{same_region}
-use Rattle.om_layout.specs.Layout.{LayoutView, TableAt, RegionAt, text_base, data_base, stack_base, heap_base, region_at, address_or, position_of, start_at, start_or, gp_at, gp_of, table_at, address_of}
+use Rattle.om_layout.specs.Layout.{LayoutView, TableAt, RegionAt, text_base, data_base, stack_base, heap_base, region_at, address_or, position_of, start_at, start_or, address_of}
 use Rattle.om_layout.specs.Order.{round_16, PlacedTables, tables_end, PlacedRegions, regions_end}
 use Rattle.om_encode.specs.Halves.{FarLoad, far_of, far_or, half_by, half_of, addresses_of}
 use Rattle.om_encode.proofs.Extents.{SizesMatch}

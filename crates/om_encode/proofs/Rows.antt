@@ -1,9 +1,8 @@
 -- The worked image meets all that the law of true maps asks for.
-use Rattle.std.proofs.Common.{◌≡◌, ◌⊎◌, inl, inr, ℕ, zero, suc, ◌+◌, ◌-◌, ◌*◌, ◌/◌, ◌%◌, ◌<◌, ◌≤◌, Bool, true, false, cond, ◌==◌, List, [], ◌∷◌, length, Option, Some, None, refl, ap, sym, subst, ◌∙◌, arith}
+use Rattle.std.proofs.Common.{◌≡◌, ◌⊎◌, inl, inr, ℕ, zero, suc, ◌+◌, ◌*◌, ◌/◌, ◌%◌, ◌<◌, ◌≤◌, Bool, true, false, cond, ◌==◌, List, [], ◌∷◌, length, Some, None, refl, ap, sym, subst, ◌∙◌, arith}
 use Rattle.std.specs.Prelude.{slice_get, slice_index, slice_index_or, ◌^◌, option_and_then, is_some, negsuc, All}
 use Rattle.std.proofs.lemmas.Int.{ints}
 use Rattle.std.proofs.lemmas.Bool.{eqb-true}
-use Rattle.std.proofs.lemmas.Bool.Decides.{nat_tests}
 use Rattle.std.proofs.lemmas.List.Sorted.{IsPermutation-refl}
 use Rattle.om_isa.specs.declared.instr.BrOp.TheVariants.{Br}
 use Rattle.om_isa.specs.Words.{Encodes, instr_of}
@@ -14,14 +13,13 @@ use Rattle.om_value.specs.Same.{region_eq}
 use Rattle.om_prog.specs.declared.item.Item.{Item}
 use Rattle.om_prog.specs.declared.item.Field.{Field}
 use Rattle.om_prog.specs.declared.region.RegionInit.{RegionInit}
-use Rattle.om_prog.specs.Act.{Act, To, Word}
+use Rattle.om_prog.specs.Act.{To, Word}
 use Rattle.om_prog.specs.View.{item_at}
-use Rattle.om_prog.specs.Valid.{IsProgram, IsItem, AreItems, IsText, IsRegionInit}
+use Rattle.om_prog.specs.Valid.{IsProgram, IsItem, IsText, IsRegionInit}
 use Rattle.om_graph.specs.View.{Has}
 use Rattle.om_graph.specs.Run.{words}
 use Rattle.om_graph.specs.Lifted.{IsLifted}
 use Rattle.om_graph.specs.Index.{index_of}
-use Rattle.om_image.specs.declared.image.Image.{Image}
 use Rattle.om_image.specs.declared.map.MapObj.{MapObj}
 use Rattle.om_image.specs.declared.map.MapTable.{MapTable}
 use Rattle.om_image.specs.declared.map.MapRegion.{MapRegion}
@@ -29,7 +27,7 @@ use Rattle.om_image.specs.declared.map.MapWord.{MapWord}
 use Rattle.om_image.specs.Valid.{IsValidImage, IsSlot, IsInMap}
 use Rattle.om_lockstep.specs.Addresses.{IsValue}
 use Rattle.om_layout.specs.Layout.{TableAt, position_of, region_at}
-use Rattle.om_layout.specs.Order.{slots_of, words_before, IsPlaceOf, IsDataLayout, IsLayoutOf}
+use Rattle.om_layout.specs.Order.{slots_of, words_before, IsPlaceOf, IsLayoutOf}
 use Rattle.om_encode.specs.Data.{DataIsTrue, DistanceFits, RoleFits, data_byte, region_byte}
 use Rattle.om_encode.specs.Text.{TextIsTrue, map_word}
 use Rattle.om_encode.specs.Fields.{FieldsAreTrue, IsTrueWord}

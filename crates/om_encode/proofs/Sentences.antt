@@ -1,9 +1,9 @@
 -- The promise of writing and ending, from runs that are alike at counted steps.
-use Rattle.std.proofs.Common.{◌≡◌, ◌⊎◌, inl, inr, ℕ, zero, suc, ◌+◌, ◌-◌, ◌*◌, ◌<◌, ◌≤◌, Bool, true, false, cond, not, ◌&&◌, ◌==◌, List, [], ◌∷◌, ◌++◌, length, take, drop, Option, Some, None, refl, ap, sym as back, subst, ◌∙◌, arith, append_assoc}
+use Rattle.std.proofs.Common.{◌≡◌, ℕ, zero, suc, ◌+◌, ◌-◌, ◌*◌, ◌≤◌, Bool, true, false, cond, not, ◌==◌, List, [], ◌∷◌, ◌++◌, Option, Some, None, refl, ap, sym as back, subst, ◌∙◌, arith, append_assoc}
 use Rattle.std.specs.Prelude.{IsTrue}
 use Rattle.std.proofs.Math.Nat.{add-suc, add-zero, suc-mul}
 use Rattle.om_isa.specs.declared.instr.Instr.{Instr}
-use Rattle.om_isa.specs.Effect.{Effect, Nothing, Set, Store, Jump, Stop, Calls, StepObserves}
+use Rattle.om_isa.specs.Effect.{Nothing, Set, Store, Jump, Stop, Calls, StepObserves}
 use Rattle.om_isa.specs.SystemCall.{Call, Exits, Answers, Puts, Takes, HeapEnd, Resizes, CallObserves}
 use Rattle.om_prog.specs.Act.{Script}
 use Rattle.om_prog.specs.Step.{SymState, SymEnd, ExitedWith, TrappedAt, ObservedAt}
@@ -14,8 +14,8 @@ use Rattle.om_image.specs.NumStep as num
 use Rattle.om_image.specs.NumStep.{NumEffect, num_step, num_start}
 use Rattle.om_image.specs.NumRun.{num_steps, num_run}
 use Rattle.om_lockstep.specs.Addresses.{Addresses}
-use Rattle.om_lockstep.specs.Lockstep.{Alike, EndAlike, InLockstep}
-use Rattle.om_encode.specs.Headline.{IsPrefix, AlikeAtCounted, Headline, CountedGivesHeadline, LockstepGivesHeadline, Follows, FollowsAndRuns}
+use Rattle.om_lockstep.specs.Lockstep.{Alike, EndAlike}
+use Rattle.om_encode.specs.Headline.{IsPrefix, AlikeAtCounted, Headline, CountedGivesHeadline, LockstepGivesHeadline, FollowsAndRuns}
 
 append_nil : (xs : List ℕ) → xs ≡ xs ++ []
 append_nil [] = refl

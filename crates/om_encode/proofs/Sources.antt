@@ -1,6 +1,6 @@
 -- What is known of the words of a graph, as they come from a program's words.
-use Rattle.std.proofs.Common.{◌≡◌, ◌⊎◌, inl, inr, ℕ, zero, suc, ◌+◌, ◌/◌, ◌%◌, ◌^◌, ◌<◌, ◌≤◌, Bool, true, false, cond, ◌&&◌, ◌==◌, List, [], ◌∷◌, ◌++◌, length, Option, Some, None, refl, ap, sym, subst, ◌∙◌, arith}
-use Rattle.std.specs.Prelude.{slice_get, slice_index_or, option_and_then, option_map, All, ℤ}
+use Rattle.std.proofs.Common.{◌≡◌, inl, inr, ℕ, zero, suc, ◌/◌, ◌%◌, Bool, true, false, cond, ◌==◌, List, [], ◌∷◌, ◌++◌, Option, Some, None, refl, ap, sym, subst, ◌∙◌, arith}
+use Rattle.std.specs.Prelude.{slice_get, option_and_then, option_map, All, ℤ}
 use Rattle.std.proofs.lemmas.Bool.{eqb-true}
 use Rattle.om_isa.specs.declared.instr.MemOp.{MemOp}
 use Rattle.om_isa.specs.declared.instr.MemOp.TheVariants.{Lda, Ldah, Ldbu, LdqU, Ldwu, Stw, Stb, StqU, Ldl, Ldq, Stl, Stq}
@@ -16,14 +16,13 @@ use Rattle.om_prog.specs.Act.{Act, Plain, Lit, GpHi, GpLo, To, AddrLda, AddrHi, 
 use Rattle.om_prog.specs.View.{ProgramView, item_at}
 use Rattle.om_prog.specs.Script.{act_of, program_fetch}
 use Rattle.om_prog.specs.Valid.{IsProgram, fits, is_high}
-use Rattle.om_graph.specs.View.{Block, Shape, GraphView, Has}
-use Rattle.om_graph.specs.Run.{words, block_words, shape_words}
-use Rattle.om_graph.specs.Uses.{Between, IsLocalUse}
+use Rattle.om_graph.specs.View.{Shape, GraphView, Has}
+use Rattle.om_graph.specs.Run.{words, shape_words}
+use Rattle.om_graph.specs.Uses.{Between}
 use Rattle.om_graph.specs.OfProgram.{IsGraphOf, IsForm, as_was, near, number, far, by_gp, by_high, byte, called, direct}
 use Rattle.om_graph.proofs.Labels.{has_in}
-use Rattle.om_graph.proofs.LiftedWords.{item_word, Stands}
-use Rattle.om_graph.proofs.LiftedCases.{each_act}
-use Rattle.om_graph.proofs.OfProgram.{Within, Origin, IsShape, word_from, shape_word, shape_at, block_shape}
+use Rattle.om_graph.proofs.LiftedWords.{item_word}
+use Rattle.om_graph.proofs.OfProgram.{IsShape, word_from, shape_word, shape_at, block_shape}
 use Rattle.om_lockstep.specs.Addresses.{IsTarget}
 use Rattle.om_lockstep.proofs.Small.{and_true}
 use Rattle.om_encode.specs.Data.{HasWidths, RoleFits}

@@ -1,9 +1,9 @@
 -- The words of a true map stand where a run looks for them, in forms of their acts.
-use Rattle.std.proofs.Common.{◌≡◌, ◌⊎◌, inl, inr, ℕ, zero, suc, ◌+◌, ◌-◌, ◌*◌, ◌/◌, ◌%◌, ◌^◌, ◌<◌, ◌≤◌, Bool, true, false, cond, not, ◌&&◌, ◌==◌, nat_lt, nat_le, List, [], ◌∷◌, length, Option, Some, None, refl, ap, sym, subst, ◌∙◌, arith}
-use Rattle.std.specs.Prelude.{ℤ, pos, negsuc, ◌+ℤ◌, ◌-ℤ◌, ◌*ℤ◌, FitsSigned, slice_get, slice_index_or}
-use Rattle.std.specs.Int.{w16, w64, cast_unsigned}
+use Rattle.std.proofs.Common.{◌≡◌, inl, inr, ℕ, zero, suc, ◌+◌, ◌-◌, ◌*◌, ◌/◌, ◌%◌, ◌^◌, ◌<◌, true, cond, ◌&&◌, ◌==◌, List, [], ◌∷◌, length, Option, Some, None, refl, ap, sym, subst, ◌∙◌, arith}
+use Rattle.std.specs.Prelude.{ℤ, pos, ◌+ℤ◌, ◌*ℤ◌, FitsSigned, slice_get, slice_index_or}
+use Rattle.std.specs.Int.{w16}
 use Rattle.std.proofs.lemmas.Bool.Decides.{nat_tests}
-use Rattle.om_isa.specs.declared.instr.MemOp.TheVariants.{Lda, Ldah, Ldq}
+use Rattle.om_isa.specs.declared.instr.MemOp.TheVariants.{Lda}
 use Rattle.om_isa.specs.declared.instr.Instr.{Instr}
 use Rattle.om_isa.specs.declared.instr.Instr.TheVariants.{Mem, Jump, Branch, Alu, Cmov, Misc, Fnop, Halt, Callsys}
 use Rattle.om_isa.specs.Words.{Encodes}
@@ -13,14 +13,11 @@ use Rattle.om_value.specs.declared.value.Target.TheVariants as target
 use Rattle.om_prog.specs.Act.{Act, Plain, Lit, GpHi, GpLo, To, AddrLda, AddrHi, UseLo, UseGp, Wrong, Word, base_of}
 use Rattle.om_prog.specs.View.{ProgramView}
 use Rattle.om_prog.specs.Script.{program_fetch}
-use Rattle.om_prog.specs.Step.{next_place}
-use Rattle.om_prog.specs.Flow.{act_falls}
 use Rattle.om_isa.specs.declared.instr.BrOp.{BrOp}
 use Rattle.om_isa.specs.declared.instr.BrOp.TheVariants.{Br, Bsr, If}
 use Rattle.om_graph.specs.View.{GraphView, Has}
 use Rattle.om_graph.specs.Run.{words, next_word, table_of, graph_script}
 use Rattle.om_graph.specs.Form.{Ordered}
-use Rattle.om_graph.specs.Kept.{Links}
 use Rattle.om_graph.proofs.Fetching.{found_has}
 use Rattle.om_graph.proofs.Labels.{in_all, append_left}
 use Rattle.om_graph.proofs.OfProgram.{to_map}
@@ -31,7 +28,7 @@ use Rattle.om_image.specs.NumAccess.{plus}
 use Rattle.om_image.specs.NumStep.{word_at, is_text}
 use Rattle.om_lockstep.specs.Addresses.{Addresses, IsTarget, IsLaidOut, target_number}
 use Rattle.om_lockstep.specs.Goes.{most_of}
-use Rattle.om_lockstep.specs.Forms.{IsForm, IsUseForm, IsSlot, HasNext, Stands, is_num}
+use Rattle.om_lockstep.specs.Forms.{IsForm, IsUseForm, IsSlot, HasNext, Stands}
 use Rattle.om_layout.specs.Layout.{LayoutView, TableAt, text_base, position_of, code_at, start_at, gp_at, gp_of, table_at, address_of}
 use Rattle.om_layout.specs.Facts.{ArePositions, GoesOn}
 use Rattle.om_encode.specs.Halves.{FarLoad, far_of, far_half, far_or, half_of, pair_half, high_part, from_gp, from_base, addresses_of}

@@ -1,24 +1,19 @@
 -- The image's start is that of the graph's run.
-use Rattle.std.proofs.Common.{◌≡◌, ◌⊎◌, inl, inr, ℕ, zero, suc, ◌+◌, ◌-◌, ◌*◌, ◌/◌, ◌%◌, ◌^◌, ◌<◌, ◌≤◌, Bool, true, false, cond, not, ◌&&◌, ◌||◌, ◌==◌, nat_lt, nat_le, List, [], ◌∷◌, length, map, Option, Some, None, refl, ap, sym, subst, ◌∙◌, arith, slice_index_or}
-use Rattle.std.specs.Prelude.{slice_get, slice_index, find, All, ℤ, pos, ◌-ℤ◌, FitsSigned}
+use Rattle.std.proofs.Common.{◌≡◌, inl, inr, ℕ, zero, suc, ◌+◌, ◌-◌, ◌%◌, ◌^◌, ◌<◌, Bool, true, false, cond, ◌&&◌, nat_lt, List, [], ◌∷◌, length, map, Option, Some, None, refl, ap, sym, subst, ◌∙◌, arith}
+use Rattle.std.specs.Prelude.{slice_index, find, All, ℤ, pos, ◌-ℤ◌, FitsSigned}
 use Rattle.std.specs.Int.{w32, w64, cast_unsigned, cast_signed, byte_at, bytes_low_first}
 use Rattle.std.proofs.lemmas.Int.{ints, to_z-of_z}
-use Rattle.std.proofs.Math.Nat.{div-one}
-use Rattle.std.proofs.lemmas.Bool.Decides.{nat_tests}
 use Rattle.byteorder.specs.Endian.{little_bytes}
-use Rattle.om_alpha.specs.declared.op.Width.TheVariants as width
-use Rattle.om_alpha.specs.Arithmetic.{at_width, sign_extend, long}
+use Rattle.om_alpha.specs.Arithmetic.{sign_extend}
 use Rattle.om_value.specs.declared.value.Region.{Region}
-use Rattle.om_value.specs.declared.value.Region.TheVariants.{Sec, Common, Stack, Heap}
 use Rattle.om_value.specs.declared.value.Target.{Target}
 use Rattle.om_value.specs.declared.value.Target.TheVariants as target
 use Rattle.om_value.specs.declared.value.Value.{Value}
 use Rattle.om_value.specs.declared.value.Value.TheVariants.{Num, Ptr, Code, Gp, Half, GpOff}
-use Rattle.om_value.specs.Same.{region_eq}
 use Rattle.om_prog.specs.declared.item.Field.{Field}
 use Rattle.om_prog.specs.declared.region.RegionInit.{RegionInit}
-use Rattle.om_prog.specs.Cells.{Cell, Byte, Part, cells_of, bytes_of, parts_from}
-use Rattle.om_prog.specs.View.{ProgramView, init_of, is_word}
+use Rattle.om_prog.specs.Cells.{Cell, cells_of, parts_from}
+use Rattle.om_prog.specs.View.{ProgramView, is_word}
 use Rattle.om_prog.specs.Valid.{width_of, has_region, is_near_target}
 use Rattle.om_value.specs.declared.value.Place.{Place}
 use Rattle.om_lockstep.proofs.Small.{cond_some}
@@ -27,7 +22,7 @@ use Rattle.om_lockstep.specs.Addresses.{Addresses, IsTarget, IsValue, IsCell, Is
 use Rattle.om_lockstep.specs.Goes.{cell_byte}
 use Rattle.om_lockstep.proofs.Memory.{AreCells, mapped_at}
 use Rattle.om_lockstep.proofs.Access.{bytes_lowered, bytes_cells, parts_lowered}
-use Rattle.om_layout.specs.Layout.{LayoutView, region_at, code_at, gp_at, gp_of, table_at, address_of}
+use Rattle.om_layout.specs.Layout.{LayoutView, region_at, code_at, gp_at, table_at, address_of}
 use Rattle.om_encode.specs.Data.{value_bytes, field_byte, region_byte, DistanceFits}
 
 pub find_all : {A : Type 0} (P : A → Type 0) (test : A → Bool) (xs : List A) (x : A) → All P xs → find test xs ≡ Some x → P x × (test x ≡ true)
@@ -150,7 +145,7 @@ module _ (p : ProgramView) (l : LayoutView) (addr : Addresses) (regions_same : (
   init_begins r x small widths values fits =
       field_begins r.bytes x (find (covers x) r.fields) small
       (λ f e.
-          value_holds f.value f.width
-          (find_all (λ f. width_of p f.value ≡ Some f.width) (covers x) r.fields f widths e).0
-          (find_all (λ f. IsValue f.value) (covers x) r.fields f values e).0
-          (find_all (λ f. DistanceFits l f.value) (covers x) r.fields f fits e).0)
+      value_holds f.value f.width
+      (find_all (λ f. width_of p f.value ≡ Some f.width) (covers x) r.fields f widths e).0
+      (find_all (λ f. IsValue f.value) (covers x) r.fields f values e).0
+      (find_all (λ f. DistanceFits l f.value) (covers x) r.fields f fits e).0)

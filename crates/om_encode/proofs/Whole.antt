@@ -1,33 +1,27 @@
 -- From a true map to runs in lockstep.
-use Rattle.std.proofs.Common.{◌≡◌, ◌⊎◌, inl, inr, ℕ, zero, suc, ◌+◌, ◌-◌, ◌*◌, ◌/◌, ◌%◌, ◌^◌, ◌<◌, ◌≤◌, Bool, true, false, cond, not, ◌&&◌, ◌==◌, nat_lt, nat_le, List, [], ◌∷◌, length, Option, Some, None, refl, ap, sym, subst, ◌∙◌, arith}
-use Rattle.std.specs.Prelude.{slice_get, slice_index, slice_index_or, find, All, IsTrue}
+use Rattle.std.proofs.Common.{◌≡◌, inl, inr, ℕ, zero, suc, ◌+◌, ◌*◌, ◌/◌, ◌%◌, ◌^◌, ◌<◌, ◌≤◌, Bool, true, false, cond, not, ◌==◌, nat_lt, nat_le, List, [], ◌∷◌, length, Option, Some, None, refl, ap, sym, subst, ◌∙◌, arith}
+use Rattle.std.specs.Prelude.{slice_get, slice_index, slice_index_or, All, IsTrue}
 use Rattle.std.proofs.lemmas.Bool.{ltb-true}
 use Rattle.std.proofs.lemmas.Bool.Decides.{nat_tests}
 use Rattle.om_value.specs.declared.value.Place.{Place}
 use Rattle.om_value.specs.declared.value.Region.{Region}
 use Rattle.om_value.specs.declared.value.Region.TheVariants.{Sec, Common, Stack, Heap}
 use Rattle.om_value.specs.declared.value.Target.{Target}
-use Rattle.om_value.specs.declared.value.Value.{Value}
 use Rattle.om_value.specs.declared.value.Value.TheVariants.{Num, Code}
 use Rattle.om_value.specs.Same.{region_eq}
 use Rattle.om_prog.specs.declared.item.Field.{Field}
 use Rattle.om_prog.specs.declared.region.RegionInit.{RegionInit}
-use Rattle.om_prog.specs.Act.{Word, Script}
-use Rattle.om_prog.specs.Cells.{Cell, Byte, Part}
 use Rattle.om_prog.specs.View.{ProgramView, init_of, size_or_none, size_of}
-use Rattle.om_prog.specs.Script.{initial, init_cell, program_script, program_run}
-use Rattle.om_prog.specs.Valid.{IsProgram, width_of}
-use Rattle.om_prog.specs.Step.{SymState, sized, read_reg}
-use Rattle.om_prog.specs.Runs.{sym_run, has_observed, is_clean}
-use Rattle.om_prog.specs.Within.{StateWithin, ValueWithin}
+use Rattle.om_prog.specs.Script.{initial, init_cell}
+use Rattle.om_prog.specs.Valid.{width_of}
+use Rattle.om_prog.specs.Step.{SymState, sized}
+use Rattle.om_prog.specs.Runs.{sym_run, has_observed}
+use Rattle.om_prog.specs.Within.{ValueWithin}
 use Rattle.om_graph.specs.View.{GraphView, Has}
-use Rattle.om_graph.specs.Held.{label_list}
-use Rattle.om_graph.specs.Run.{words, next_word, table_of, entry_of, is_word_in, graph_script}
-use Rattle.om_graph.specs.Form.{Ordered, label_after, text_size}
-use Rattle.om_graph.specs.Kept.{IsInKeptSet, IsBlock, IsEnd, IsInside, Comes, IsKeptLabel, KeptInBlocks}
-use Rattle.om_graph.specs.Whole.{IsWhole, program_roots}
-use Rattle.om_graph.specs.Lifted.{IsLifted}
-use Rattle.om_graph.specs.OfProgram.{IsGraphOf}
+use Rattle.om_graph.specs.Run.{words, table_of, entry_of, is_word_in, graph_script}
+use Rattle.om_graph.specs.Form.{Ordered}
+use Rattle.om_graph.specs.Kept.{IsInKeptSet, IsBlock, IsEnd, Comes, IsKeptLabel}
+use Rattle.om_graph.specs.Whole.{IsWhole}
 use Rattle.om_graph.proofs.Labels.{has_label, found_behind, is_true}
 use Rattle.om_graph.proofs.Places.{placed}
 use Rattle.om_graph.proofs.Itself.{all_ordered}
@@ -40,20 +34,17 @@ use Rattle.om_graph.proofs.LiftedRun.{lifted_run}
 use Rattle.om_image.specs.declared.image.Image.{Image}
 use Rattle.om_image.specs.NumStep.{data_size, start_memory, is_text}
 use Rattle.om_image.specs.NumRun.{num_run}
-use Rattle.om_image.specs.Valid.{IsValidImage}
 use Rattle.om_lockstep.specs.Addresses.{Addresses, IsLaidOut, IsCell, IsValue}
-use Rattle.om_lockstep.specs.Goes.{cell_byte, MemoryAlike, most_of}
+use Rattle.om_lockstep.specs.Goes.{cell_byte, most_of}
 use Rattle.om_lockstep.specs.Forms.{IsEncoded, IsSlot}
 use Rattle.om_lockstep.specs.Lockstep.{StartsAlike, AreBytes, KeepsCodes, InLockstep, Alike}
 use Rattle.om_lockstep.proofs.Small.{same_region, and_true}
 use Rattle.om_lockstep.proofs.Steps.{in_lockstep}
-use Rattle.om_layout.specs.Layout.{LayoutView, TableAt, RegionAt, text_base, data_base, stack_base, heap_base, position_of, code_at, region_at, start_at, start_or, gp_at, table_at, address_of}
+use Rattle.om_layout.specs.Layout.{LayoutView, TableAt, data_base, stack_base, position_of, code_at, region_at, start_at, start_or, gp_at}
 use Rattle.om_layout.specs.Order.{tables_end, regions_end}
-use Rattle.om_layout.specs.Facts.{LaysOut}
 use Rattle.om_layout.proofs.Natural.{lays_out}
 use Rattle.om_encode.specs.Halves.{addresses_of}
 use Rattle.om_encode.specs.Data.{DataIsTrue, DistanceFits, region_byte, data_byte}
-use Rattle.om_encode.specs.TrueMap.{IsMapIn, IsTrueMap}
 use Rattle.om_encode.specs.Runs.{Encodes, EncodedGraphsRun, TrueMapsRun, LiftedImagesRun}
 use Rattle.om_encode.proofs.Extents.{SizesMatch, sizes_match}
 use Rattle.om_encode.proofs.Sources.{formed}

@@ -1,6 +1,6 @@
 -- What fits in every layout of a graph: displacements of slots, pairs and branches, and distances in data. So an encoder
 -- refuses no graph of which the address words fit.
-use Rattle.std.specs.Prelude.{◌≡◌, ℕ, ◌+◌, ◌*◌, ◌≤◌, ℤ, pos, ◌-ℤ◌, ◌*ℤ◌, All, Some, length, slice_get, FitsSigned}
+use Rattle.std.specs.Prelude.{◌≡◌, ℕ, ◌+◌, ◌*◌, ℤ, pos, ◌-ℤ◌, ◌*ℤ◌, All, Some, slice_get, FitsSigned}
 use Rattle.std.specs.Int.{w16}
 use Rattle.om_isa.specs.Fields.{IsDisp}
 use Rattle.om_value.specs.declared.value.Place.{Place}

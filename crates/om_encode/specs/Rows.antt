@@ -1,5 +1,5 @@
 -- A worked image: one word that branches to itself, and a region of eight bytes that are zero.
-use Rattle.std.specs.Prelude.{◌≡◌, ℕ, ℤ, pos, negsuc, true, false, List, [], ◌∷◌, refl}
+use Rattle.std.specs.Prelude.{◌≡◌, ℕ, pos, negsuc, true, false, List, [], ◌∷◌, refl}
 use Rattle.om_isa.specs.declared.instr.BrOp.TheVariants.{Br}
 use Rattle.om_isa.specs.declared.instr.Instr.TheVariants.{Branch}
 use Rattle.om_value.specs.declared.value.Place.{Place}
@@ -14,7 +14,7 @@ use Rattle.om_graph.specs.declared.op.Last.TheVariants as last
 use Rattle.om_graph.specs.View.{GraphView}
 use Rattle.om_image.specs.declared.image.Image.{Image}
 use Rattle.om_image.specs.declared.map.Region.TheVariants as part
-use Rattle.om_layout.specs.Layout.{LayoutView, TableAt}
+use Rattle.om_layout.specs.Layout.{LayoutView}
 use Rattle.om_lockstep.specs.Lockstep.{AreBytes, InLockstep}
 use Rattle.om_prog.specs.Script.{program_script}
 use Rattle.om_encode.specs.Halves.{high_part, addresses_of}

@@ -5,6 +5,7 @@
 mod laws;
 
 pub use laws::{
-    counted_gives_headline, encoded_graphs_run, fits_in_every_layout, follows_and_runs, lifted_images_run, linked_images_run,
-    lockstep_gives_headline, true_maps_run, worked_image_runs,
+    counted_gives_headline, encoded_graphs_run, fits_in_every_layout, follows_and_runs,
+    lifted_images_run, linked_images_run, lockstep_gives_headline, true_maps_run,
+    worked_image_runs,
 };
