@@ -1,7 +1,7 @@
 -- The displacements of a true map give the numbers that the forms need.
 use Rattle.std.proofs.Common.{◌≡◌, ℕ, ◌+◌, ◌-◌, ◌/◌, ◌^◌, ◌<◌, ◌≤◌, Bool, true, false, cond, refl, arith}
 use Rattle.std.specs.Prelude.{ℤ, pos, negsuc, ◌+ℤ◌, ◌-ℤ◌, ◌*ℤ◌, FitsSigned}
-use Rattle.std.specs.Int.{w16, w64, cast_unsigned}
+use Rattle.std.specs.Int.{int_div_euclid, w16, w64, cast_unsigned}
 use Rattle.std.proofs.lemmas.Int.{ints}
 use Rattle.om_isa.specs.Target.{displaced}
 use Rattle.om_image.specs.NumAccess.{plus}
@@ -23,14 +23,13 @@ to_exact n m d hm hn fits e = omega (arith, ints)
 pub splits_same : (z hi lo hi2 lo2 : ℤ) → Splits z hi lo → Splits z hi2 lo2 → hi ≡ hi2
 splits_same z hi lo hi2 lo2 a b = omega (arith, ints, a.sum, a.low, b.sum, b.low)
 
-high_below : (n : ℕ) (b : Bool) → nat_lt n 32768 ≡ b → (hi lo : ℤ) → Splits (negsuc n) hi lo → cond b (pos 0) (negsuc ((n - 32768) / 65536)) ≡ hi
-high_below n true t hi lo s = let h : n < 32768 = grind (arith, nat_tests) in omega (arith, ints, h, s.sum, s.low)
-high_below n false t hi lo s = let h : 32768 ≤ n = grind (arith, nat_tests) in omega (arith, ints, h, s.sum, s.low)
+high_of : (w z : ℤ) → z +ℤ pos 32768 ≡ w → (hi lo : ℤ) → Splits z hi lo → int_div_euclid w (pos 65536) ≡ hi
+high_of (pos a) z e hi lo s = omega (arith, ints, e, s.sum, s.low)
+high_of (negsuc a) z e hi lo s = omega (arith, ints, e, s.sum, s.low)
 
 -- the parts are one, and the high one is that of the distance
 pub high_is : (z hi lo : ℤ) → Splits z hi lo → high_part z ≡ hi
-high_is (pos n) hi lo s = omega (arith, ints, s.sum, s.low)
-high_is (negsuc n) hi lo s = high_below n (nat_lt n 32768) refl hi lo s
+high_is z hi lo s = high_of (z +ℤ pos 32768) z refl hi lo s
 
 pub splits_plus : (gp base : ℕ) (hi lo : ℤ) → gp < 2 ^ 64 → Splits (pos gp -ℤ pos base) hi lo → plus (plus base (pos 65536 *ℤ hi)) (pos 1 *ℤ lo) ≡ gp
 splits_plus gp base hi lo h s = omega (arith, ints, s.sum, s.low, s.high)

@@ -2,6 +2,7 @@
 -- pairs give. LDAH adds 65536 times its displacement and LDA its own, both signed (Alpha Architecture Handbook, chapter 4,
 -- "Memory Integer Load/Store Instructions"), so the high part of a distance is rounded to leave 16 signed bits.
 use Rattle.std.specs.Prelude.{ℕ, ◌+◌, ◌-◌, ◌/◌, ℤ, pos, negsuc, ◌+ℤ◌, ◌-ℤ◌, ◌*ℤ◌, nat_lt, if◌then◌else◌, List, [], ◌∷◌, Option, Some, None}
+use Rattle.std.specs.Int.{int_div_euclid}
 use Rattle.std.specs.Option.{option_or}
 use Rattle.om_value.specs.declared.value.Place.{Place}
 use Rattle.om_value.specs.declared.value.Target.{Target}
@@ -19,8 +20,7 @@ use Rattle.om_layout.specs.Layout.{LayoutView, region_at, code_at, gp_at, gp_of,
 
 -- the high part of a distance, where the low part has 16 signed bits: the distance and 32768, over 65536, rounded down
 abbrev pub high_part : ℤ → ℤ
-high_part (pos n) = pos ((n + 32768) / 65536)
-high_part (negsuc n) = if nat_lt n 32768 then pos 0 else negsuc ((n - 32768) / 65536)
+high_part z = int_div_euclid (z +ℤ pos 32768) (pos 65536)
 
 -- ---- loads that became LDAH
 

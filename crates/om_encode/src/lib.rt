@@ -2,6 +2,7 @@
 //! as its graph does.
 #![tactic(auto)]
 
+mod distances;
 mod laws;
 
 pub use laws::{
