@@ -6,4 +6,5 @@ pub mod TrueMap
 pub mod Runs
 pub mod Headline
 pub mod Fitting
+pub mod Written
 pub mod Rows

@@ -4,6 +4,7 @@
 
 mod distances;
 mod laws;
+mod words;
 
 pub use laws::{
     counted_gives_headline, encoded_graphs_run, fits_in_every_layout, follows_and_runs,
