@@ -1,0 +1,13 @@
+pub mod Exact
+pub mod Extents
+pub mod Behind
+pub mod Far
+pub mod Sources
+pub mod Regions
+pub mod Start
+pub mod Standing
+pub mod Whole
+pub mod Sentences
+pub mod Linked
+pub mod Fitting
+pub mod Rows

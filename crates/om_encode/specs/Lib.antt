@@ -1,0 +1,10 @@
+pub mod Halves
+pub mod Data
+pub mod Text
+pub mod Fields
+pub mod TrueMap
+pub mod Runs
+pub mod Headline
+pub mod Fitting
+pub mod Written
+pub mod Rows

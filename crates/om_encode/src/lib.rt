@@ -1,0 +1,13 @@
+//! From a graph and its layout to an image whose map is true; in specs/ what a true map is, and that an image with one runs
+//! as its graph does.
+#![tactic(auto)]
+
+mod distances;
+mod laws;
+mod words;
+
+pub use laws::{
+    counted_gives_headline, encoded_graphs_run, fits_in_every_layout, follows_and_runs,
+    lifted_images_run, linked_images_run, lockstep_gives_headline, true_maps_run,
+    worked_image_runs,
+};
