@@ -1,0 +1,4 @@
+pub mod Sets
+pub mod Shapes
+pub mod Growing
+pub mod Texts

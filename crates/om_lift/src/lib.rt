@@ -1,0 +1,13 @@
+//! The graph of a program, with all of its words.
+#![tactic(auto)]
+
+mod landing;
+mod lifting;
+mod marks;
+mod places;
+mod roots;
+#[cfg(test)]
+mod tests;
+mod words;
+
+pub use lifting::lift_program;
