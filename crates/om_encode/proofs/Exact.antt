@@ -1,13 +1,11 @@
 -- The displacements of a true map give the numbers that the forms need.
-use Rattle.std.proofs.Common.{◌≡◌, ℕ, ◌+◌, ◌-◌, ◌/◌, ◌^◌, ◌<◌, ◌≤◌, Bool, true, false, cond, refl, arith}
+use Rattle.std.proofs.Common.{◌≡◌, ℕ, ◌+◌, ◌^◌, ◌<◌, refl, arith}
 use Rattle.std.specs.Prelude.{ℤ, pos, negsuc, ◌+ℤ◌, ◌-ℤ◌, ◌*ℤ◌, FitsSigned}
 use Rattle.std.specs.Int.{int_div_euclid, w16, w64, cast_unsigned}
 use Rattle.std.proofs.lemmas.Int.{ints}
 use Rattle.om_isa.specs.Target.{displaced}
 use Rattle.om_image.specs.NumAccess.{plus}
 use Rattle.om_isa.specs.Fields.{IsDisp}
-use Rattle.std.specs.Prelude.{nat_lt}
-use Rattle.std.proofs.lemmas.Bool.Decides.{nat_tests}
 use Rattle.om_encode.specs.Halves.{high_part}
 use Rattle.om_encode.specs.Fields.{Splits}
 

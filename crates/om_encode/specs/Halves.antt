@@ -1,7 +1,7 @@
 -- The numbers that symbolic values are in an image: addresses by its layout, and the halves that first instructions of
 -- pairs give. LDAH adds 65536 times its displacement and LDA its own, both signed (Alpha Architecture Handbook, chapter 4,
 -- "Memory Integer Load/Store Instructions"), so the high part of a distance is rounded to leave 16 signed bits.
-use Rattle.std.specs.Prelude.{ℕ, ◌+◌, ◌-◌, ◌/◌, ℤ, pos, negsuc, ◌+ℤ◌, ◌-ℤ◌, ◌*ℤ◌, nat_lt, if◌then◌else◌, List, [], ◌∷◌, Option, Some, None}
+use Rattle.std.specs.Prelude.{ℕ, ℤ, pos, ◌+ℤ◌, ◌-ℤ◌, ◌*ℤ◌, if◌then◌else◌, List, [], ◌∷◌, Option, Some, None}
 use Rattle.std.specs.Int.{int_div_euclid}
 use Rattle.std.specs.Option.{option_or}
 use Rattle.om_value.specs.declared.value.Place.{Place}

@@ -1,7 +1,6 @@
 -- The instructions that are written for words that need an address, over the distances that they need.
 use Rattle.std.specs.Prelude.{◌≡◌, ℕ, ℤ, ◌+ℤ◌, Option, None, FitsSigned, SomeIff}
 use Rattle.std.specs.Int.{w16}
-use Rattle.om_isa.specs.declared.instr.MemOp.{MemOp}
 use Rattle.om_isa.specs.declared.instr.Instr.{Instr}
 use Rattle.om_isa.specs.declared.instr.Instr.TheVariants.{Mem}
 
