@@ -300,7 +300,7 @@ FILES = {
     "CALLS_F": Object("bsr r26,f\n" + ends("r0")),
     "IS_F": Object("lda r0,9(r31)\nret r31,(r26)\n", symbols=[("f", 0, TEXT)], start=False),
     "START_IN_DATA": Object("halt\n", [(3, 8, b"")], symbols=[("__start", 16, DATA)], start=False),
-    "BRANCHES_TO_DATA": Object("bsr r26,f\n" + ends(0), [(3, 8, b"")], symbols=[("f", 16, DATA)]),
+    "CALLS_DATA": Object("bsr r26,f\n" + ends(0), [(3, 8, b"")], symbols=[("f", 16, DATA)]),
 }
 
 

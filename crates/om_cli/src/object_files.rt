@@ -516,7 +516,7 @@ pub(crate) const START_IN_DATA: File = (
     ],
 );
 
-pub(crate) const BRANCHES_TO_DATA: File = (
+pub(crate) const CALLS_DATA: File = (
     482,
     &[
         (0, b"\x83\x01\x02\0\0\0\0\0\x18\x01\0\0\0\0\0\0\x90"),

@@ -1,9 +1,9 @@
 // Programs that were worked by hand, run without addresses over stores and streams in memory.
 use crate::object_files::{
-    BRANCHES_TO_DATA, CALLS_F, COMMON_24, COMMON_25, EXITS_SEVEN, FOREVER, File, HALTS, HAS_FOO,
-    HEAP, IS_F, IS_FOO, LARGER, LARGEST_HEAP, NO_ACCESS, NO_SUCH_CALL, OVERFLOWS, PAST_HEAP,
-    PRINTS, PUTS, READS, RETURNS_TO_END, SHOWS, START_IN_DATA, STRAY_ADDRESS, TOO_LARGE_HEAP,
-    UNALIGNED, WANTS_FOO, WRITES_8, WRITES_9,
+    CALLS_DATA, CALLS_F, COMMON_24, COMMON_25, EXITS_SEVEN, FOREVER, File, HALTS, HAS_FOO, HEAP,
+    IS_F, IS_FOO, LARGER, LARGEST_HEAP, NO_ACCESS, NO_SUCH_CALL, OVERFLOWS, PAST_HEAP, PRINTS,
+    PUTS, READS, RETURNS_TO_END, SHOWS, START_IN_DATA, STRAY_ADDRESS, TOO_LARGE_HEAP, UNALIGNED,
+    WANTS_FOO, WRITES_8, WRITES_9,
 };
 use crate::om;
 use om_io::{Bytes, MemSink, MemSource, MemStore};
@@ -53,14 +53,17 @@ fn long_text(alloc: Global, words: u32) -> Result<Vec<u8>, Fail> {
 // The names of a row's files.
 const NAMES: [&str; 2] = ["a.o", "b.o"];
 
-// A run: the files; the words; the input; the calls of the store, of the input, of `out` and of `err` that fail; the status,
+// The number of a call that is never made.
+const NEVER: u64 = 99_999;
+
+// A run: the files; the words; the input; the call of the store, of the input, of `out` and of `err` that fails; the status,
 // what is on `out`, and what is on `err`.
 #[derive(Clone, Copy)]
 struct Row<'a> {
     files: &'a [File],
     line: &'static str,
     input: &'static str,
-    fails: [&'a [u64]; 4],
+    fails: [u64; 4],
     status: u8,
     written: &'a [u8],
     told: &'static str,
@@ -71,7 +74,7 @@ fn ran<'a>(files: &'a [File], line: &'static str, status: u8, told: &'static str
         files,
         line,
         input: "",
-        fails: [&[], &[], &[], &[]],
+        fails: [NEVER; 4],
         status,
         written: b"",
         told,
@@ -88,13 +91,13 @@ fn words_of(alloc: Global, line: &str) -> Result<Vec<String>, Fail> {
 
 // Whether a run over these files is as its row says, and no file is changed.
 fn agrees_over(alloc: Global, row: Row<'_>, files: Vec<(String, Bytes)>) -> Result<bool, Fail> {
-    let mut store = MemStore::new(alloc, files, 64, row.fails[0].to_vec(alloc)?)?;
+    let mut store = MemStore::new(alloc, files, 64, [row.fails[0]].to_vec(alloc)?)?;
     let mut input = MemSource::new(
         row.input.as_bytes().to_vec(alloc)?,
-        row.fails[1].to_vec(alloc)?,
+        [row.fails[1]].to_vec(alloc)?,
     );
-    let mut out = MemSink::new(alloc, 8192, row.fails[2].to_vec(alloc)?)?;
-    let mut err = MemSink::new(alloc, 256, row.fails[3].to_vec(alloc)?)?;
+    let mut out = MemSink::new(alloc, 8192, [row.fails[2]].to_vec(alloc)?)?;
+    let mut err = MemSink::new(alloc, 256, [row.fails[3]].to_vec(alloc)?)?;
     let words = words_of(alloc, row.line)?;
     let status = om(alloc, &words, &mut store, &mut input, &mut out, &mut err);
     Ok(status == row.status && out.bytes() == row.written && err.bytes() == row.told.as_bytes())
@@ -159,41 +162,58 @@ fn programs_end_as_they_should(rt: HostRuntime) -> Result<(), Fail> {
     Ok(())
 }
 
-// A run that writes or reads.
-fn moves<'a>(row: Row<'a>, input: &'static str, written: &'a [u8]) -> Row<'a> {
-    Row {
-        input,
-        written,
-        ..row
+#[test]
+fn programs_read_and_write(rt: HostRuntime) -> Result<(), Fail> {
+    let rows = [
+        Row {
+            written: b"hi\n\0\0\0\0\0",
+            ..ran(&[WRITES_8], "sim a.o", 0, "")
+        },
+        Row {
+            written: &[0; 24],
+            ..ran(&[COMMON_24, LARGER], "sim a.o b.o", 0, "")
+        },
+        Row {
+            written: b"hi\n",
+            ..ran(&[PRINTS, PUTS], "sim a.o b.o", 0, "")
+        },
+        Row {
+            input: "abc",
+            ..ran(&[READS], "sim a.o", 1, "exit 3\n")
+        },
+        ran(&[READS], "sim a.o", 0, ""),
+    ];
+    for (k, row) in rows.iter().enumerate() {
+        assert!(rt; agrees(rt.alloc(), *row)?, "{k}");
     }
-}
-
-// A run in which calls fail.
-fn fails<'a>(row: Row<'a>, calls: [&'a [u64]; 4]) -> Row<'a> {
-    Row {
-        fails: calls,
-        ..row
-    }
+    Ok(())
 }
 
 #[test]
-fn programs_read_and_write(rt: HostRuntime) -> Result<(), Fail> {
-    let writes = ran(&[WRITES_8], "sim a.o", 0, "");
-    let fills = ran(&[COMMON_24, LARGER], "sim a.o b.o", 0, "");
-    let prints = ran(&[PRINTS, PUTS], "sim a.o b.o", 0, "");
-    let reads = ran(&[READS], "sim a.o", 1, "exit 3\n");
-    let read_fault = moves(ran(&[READS], "sim a.o", 6, "read fault\n"), "abc", b"");
-    let write_fault = ran(&[WRITES_8], "sim a.o", 7, "write fault\n");
+fn faults_of_the_outside_are_told(rt: HostRuntime) -> Result<(), Fail> {
     let rows = [
-        moves(writes, "", b"hi\n\0\0\0\0\0"),
-        moves(fills, "", &[0; 24]),
-        moves(prints, "", b"hi\n"),
-        moves(reads, "abc", b""),
-        ran(&[READS], "sim a.o", 0, ""),
-        fails(read_fault, [&[], &[0], &[], &[]]),
-        fails(read_fault, [&[], &[1], &[], &[]]),
-        fails(write_fault, [&[], &[], &[0], &[]]),
-        fails(ran(&[EXITS_SEVEN], "sim a.o", 7, ""), [&[], &[], &[], &[0]]),
+        Row {
+            fails: [1, NEVER, NEVER, NEVER],
+            ..ran(&[EXITS_SEVEN, IS_FOO], "sim a.o b.o", 6, "read fault\n")
+        },
+        Row {
+            input: "abc",
+            fails: [NEVER, 0, NEVER, NEVER],
+            ..ran(&[READS], "sim a.o", 6, "read fault\n")
+        },
+        Row {
+            input: "abc",
+            fails: [NEVER, 1, NEVER, NEVER],
+            ..ran(&[READS], "sim a.o", 6, "read fault\n")
+        },
+        Row {
+            fails: [NEVER, NEVER, 0, NEVER],
+            ..ran(&[WRITES_8], "sim a.o", 7, "write fault\n")
+        },
+        Row {
+            fails: [NEVER, NEVER, NEVER, 0],
+            ..ran(&[EXITS_SEVEN], "sim a.o", 7, "")
+        },
     ];
     for (k, row) in rows.iter().enumerate() {
         assert!(rt; agrees(rt.alloc(), *row)?, "{k}");
@@ -203,35 +223,32 @@ fn programs_read_and_write(rt: HostRuntime) -> Result<(), Fail> {
 
 #[test]
 fn files_that_are_no_program_are_refused(rt: HostRuntime) -> Result<(), Fail> {
-    let two = "sim a.o b.o";
-    let unread = ran(&[EXITS_SEVEN, IS_FOO], two, 6, "read fault\n");
     let rows = [
         ran(&[], "sim a.o", 3, "missing a.o\n"),
-        ran(&[EXITS_SEVEN], two, 3, "missing b.o\n"),
-        fails(unread, [&[1], &[], &[], &[]]),
-        ran(
-            &[EXITS_SEVEN, (23, &[])],
-            two,
-            3,
-            "object b.o rule 1 at 0\n",
-        ),
+        ran(&[EXITS_SEVEN], "sim a.o b.o", 3, "missing b.o\n"),
+        ran(&[(23, &[])], "sim a.o", 3, "object a.o rule 1 at 0\n"),
         ran(
             &[EXITS_SEVEN],
             "sim a.o a.o",
             3,
             "duplicate __start a.o a.o\n",
         ),
-        ran(&[HAS_FOO, IS_FOO], two, 3, "duplicate foo a.o b.o\n"),
-        ran(&[WANTS_FOO], "sim a.o", 3, "unresolved foo a.o\n"),
-        ran(&[IS_FOO, LARGER], two, 3, "unresolved __start a.o\n"),
-        ran(&[IS_FOO, START_IN_DATA], two, 3, "unresolved __start b.o\n"),
-        ran(&[STRAY_ADDRESS], "sim a.o", 3, "object a.o rule 27 at 16\n"),
         ran(
-            &[BRANCHES_TO_DATA],
-            "sim a.o",
+            &[HAS_FOO, IS_FOO],
+            "sim a.o b.o",
             3,
-            "object a.o rule 28 at 0\n",
+            "duplicate foo a.o b.o\n",
         ),
+        ran(&[WANTS_FOO], "sim a.o", 3, "unresolved foo a.o\n"),
+        ran(
+            &[IS_FOO, LARGER],
+            "sim a.o b.o",
+            3,
+            "unresolved __start a.o\n",
+        ),
+        ran(&[START_IN_DATA], "sim a.o", 3, "unresolved __start a.o\n"),
+        ran(&[STRAY_ADDRESS], "sim a.o", 3, "object a.o rule 27 at 16\n"),
+        ran(&[CALLS_DATA], "sim a.o", 3, "object a.o rule 28 at 0\n"),
         ran(&[], "sim", 2, "usage 2\n"),
         ran(&[], "sim -n x a.o", 2, "usage 3\n"),
     ];
