@@ -651,6 +651,7 @@ impl SymRun<'_> {
         ensures no_read_fault { result ≢ SymStep.ReadFault → I.faults input.new ≡ I.faults input.old }
         ensures no_write_fault { result ≢ SymStep.WriteFault → (O.faults out.new ≡ O.faults out.old) × (E.faults err.new ≡ E.faults err.old) }
         ensures no_memory { result ≡ SymStep.NoMemory → (input.new ≡ input.old) × (out.new ≡ out.old) × (err.new ≡ err.old) }
+        ensures kept { result ≡ SymStep.NoMemory → (left out_before err_before : List ℕ) → state_of self.new left out_before err_before ≡ state_of self.old left out_before err_before }
         ensures program { self.new.program ≡ self.old.program }
     {
         match self.request() {
@@ -712,6 +713,7 @@ impl SymRun<'_> {
         ensures answer { IsAnswer result self.new.end }
         ensures ended { IsSome self.old.end → (self.new ≡ self.old) × (input.new ≡ input.old) × (out.new ≡ out.old) × (err.new ≡ err.old) }
         ensures no_memory { result ≡ SymStep.NoMemory → (input.new ≡ input.old) × (out.new ≡ out.old) × (err.new ≡ err.old) }
+        ensures kept { result ≡ SymStep.NoMemory → (left out_before err_before : List ℕ) → state_of self.new left out_before err_before ≡ state_of self.old left out_before err_before }
         ensures read_fault { result ≡ SymStep.ReadFault → Rose (I.faults input.old) (I.faults input.new) × IsTaking (view_call self.old) × IsCallNext self.old }
         ensures write_fault { result ≡ SymStep.WriteFault → IsCallNext self.old
             × ((IsPutting 1 (view_call self.old) × Rose (O.faults out.old) (O.faults out.new))

@@ -1,7 +1,7 @@
 use Rattle.std.proofs.Common.{◌∙◌, ap, subst, sym, Ok}
 use Rattle.om_symrun.specs.Calls.{IsState, CallsTo}
 use Rattle.om_symrun.specs.Streams.{Told}
-use Rattle.om_symrun.specs.View.{View}
+use Rattle.om_symrun.specs.View.{View, state_of}
 use Rattle.om_symrun.proofs.Stepping.{plain_steps, call_steps, want_steps}
 use Rattle.om_symrun.proofs.machine.SymRun.step.Goals as goal
 
@@ -26,3 +26,7 @@ pub returns-in-Err-clause-steps : goal.returns-in-Err-clause-steps
 returns-in-Err-clause-steps g c = λ s ot et h.
     want_steps c.args.self.now c.plain_step.new.self s (g.I.Source.left c.args.input.now) (ot, g.O.Sink.written c.args.out.now) (et, g.E.Sink.written c.args.err.now)
     c.in-Err.ensures.same (c.in-Err.ensures.end_kept ∙ c.in-Err.ensures.running) h
+
+pub returns-in-Ok-true-clause-kept : goal.returns-in-Ok-true-clause-kept
+returns-in-Ok-true-clause-kept g c = λ e l o r.
+    c.call.ensures.kept e l o r ∙ ap (λ (x : View). state_of x l o r) (c.in-Ok-true.ensures.call (ap Ok c.in-Ok-true.field-0-test))
