@@ -26,24 +26,30 @@ fn file_of(alloc: Global, (count, pieces): File) -> Result<Vec<u8>, Fail> {
     Ok(file)
 }
 
+fn add_numbers(file: &mut Vec<u8>, numbers: &[u32]) -> Result<(), Fail> {
+    for number in numbers {
+        file.extend_from_slice(&u32::to_le_bytes(*number))?;
+    }
+    Ok(())
+}
+
 // The file of an object without symbols whose text is `bis r31,r31,r31` so many times.
 fn long_text(alloc: Global, words: u32) -> Result<Vec<u8>, Fail> {
-    let mut file = Vec::new(alloc);
     let size = words.wrapping_mul(4);
     let header = size.wrapping_add(183) / 8 * 8;
-    for number in [0x0001_0183, 0, header, 0, 144, 80] {
-        file.extend_from_slice(&u32::to_le_bytes(number))?;
-    }
+    let mut file = Vec::new(alloc);
+    add_numbers(&mut file, &[0x0001_0183, 0, header, 0, 144, 80])?;
     file.extend_from_slice(&[0; 80])?;
     file.extend_from_slice(b".text\0\0\0")?;
-    for number in [0, 0, 0, 0, size, 0, 176, 0, 0, 0, 0, 0, 0, 0, 0, 0] {
-        file.extend_from_slice(&u32::to_le_bytes(number))?;
-    }
+    add_numbers(
+        &mut file,
+        &[0, 0, 0, 0, size, 0, 176, 0, 0, 0, 0, 0, 0, 0, 0, 0],
+    )?;
     for _ in 0..words {
         file.extend_from_slice(&[0x1f, 4, 0xff, 0x47])?;
     }
-    while file.len() % 8 != 0 {
-        file.push(0)?;
+    if words % 2 == 1 {
+        file.extend_from_slice(&[0; 4])?;
     }
     file.extend_from_slice(&[0x92, 0x19])?;
     file.extend_from_slice(&[0; 142])?;
@@ -89,7 +95,18 @@ fn words_of(alloc: Global, line: &str) -> Result<Vec<String>, Fail> {
     Ok(words)
 }
 
-// Whether a run over these files is as its row says, and no file is changed.
+// Whether a store has the files of a row as they were.
+fn has_files(alloc: Global, row: Row<'_>, store: &MemStore) -> Result<bool, Fail> {
+    for (name, file) in NAMES.iter().zip(row.files) {
+        let kept = file_of(alloc, *file)?;
+        if store.file(name).unwrap_or(&[]) != kept.as_slice() {
+            return Ok(false);
+        }
+    }
+    Ok(true)
+}
+
+// Whether a run over these files is as its row says, and none of them is changed.
 fn agrees_over(alloc: Global, row: Row<'_>, files: Vec<(String, Bytes)>) -> Result<bool, Fail> {
     let mut store = MemStore::new(alloc, files, 64, [row.fails[0]].to_vec(alloc)?)?;
     let mut input = MemSource::new(
@@ -100,7 +117,12 @@ fn agrees_over(alloc: Global, row: Row<'_>, files: Vec<(String, Bytes)>) -> Resu
     let mut err = MemSink::new(alloc, 256, [row.fails[3]].to_vec(alloc)?)?;
     let words = words_of(alloc, row.line)?;
     let status = om(alloc, &words, &mut store, &mut input, &mut out, &mut err);
-    Ok(status == row.status && out.bytes() == row.written && err.bytes() == row.told.as_bytes())
+    let same = has_files(alloc, row, &store)?;
+    Ok(
+        same && status == row.status
+            && out.bytes() == row.written
+            && err.bytes() == row.told.as_bytes(),
+    )
 }
 
 // The files of a row by their names.
@@ -251,6 +273,33 @@ fn files_that_are_no_program_are_refused(rt: HostRuntime) -> Result<(), Fail> {
         ran(&[CALLS_DATA], "sim a.o", 3, "object a.o rule 28 at 0\n"),
         ran(&[], "sim", 2, "usage 2\n"),
         ran(&[], "sim -n x a.o", 2, "usage 3\n"),
+    ];
+    for (k, row) in rows.iter().enumerate() {
+        assert!(rt; agrees(rt.alloc(), *row)?, "{k}");
+    }
+    Ok(())
+}
+
+// So many zero bytes, which are as many as the call may load behind EXITS_SEVEN, and one more.
+const ZEROS_THAT_FIT: File = (268_435_088, &[]);
+
+const ZEROS_PAST_THE_LIMIT: File = (268_435_089, &[]);
+
+#[test]
+fn the_files_of_a_call_have_a_limit(rt: HostRuntime) -> Result<(), Fail> {
+    let rows = [
+        ran(
+            &[EXITS_SEVEN, ZEROS_THAT_FIT],
+            "sim a.o b.o",
+            3,
+            "object b.o rule 1 at 0\n",
+        ),
+        ran(
+            &[EXITS_SEVEN, ZEROS_PAST_THE_LIMIT],
+            "sim a.o b.o",
+            3,
+            "limit bytes b.o\n",
+        ),
     ];
     for (k, row) in rows.iter().enumerate() {
         assert!(rt; agrees(rt.alloc(), *row)?, "{k}");
