@@ -1,5 +1,5 @@
 -- Files that are loaded one after the other.
-use Rattle.std.proofs.Common.{◌≡◌, ◌≤◌, ◌<◌, ◌+◌, ◌-◌, ◌++◌, ◌∙◌, ℕ, zero, suc, List, [], ◌∷◌, length, map, get_or, Option, Some, refl, sym, ap, subst, inl, inr, arith}
+use Rattle.std.proofs.Common.{◌≡◌, ◌≤◌, ◌<◌, ◌+◌, ◌-◌, ◌++◌, ◌∙◌, ℕ, suc, List, [], ◌∷◌, length, map, Some, refl, sym, ap, subst, inl, inr, arith}
 use Rattle.std.specs.Prelude.{IsTrue, sum_by, String, string_bytes}
 use Rattle.std.specs.declared.alloc.Global.{Global}
 use Rattle.om_words.specs.Sentences.{texts}
@@ -8,7 +8,7 @@ use Rattle.om_io.specs.Causes.{raised, Rose}
 use Rattle.om_object.specs.File.{IsAccepted, parts_of}
 use Rattle.om_object.specs.declared.parts.Parts.{Parts}
 use Rattle.om_cli.specs.Causes.{most_bytes}
-use Rattle.om_cli.specs.Loading.{item_at, size_of, Loads, AreRead, IsObjectIn, IsNoObject, StopsAt, AllLoaded}
+use Rattle.om_cli.specs.Loading.{item_at, size_of, Loads, AreRead, IsObjectIn, IsNoObject, StopsAt}
 use Rattle.om_cli.specs.RunAnswers.{LoadsOne, NoLoadFailed}
 use Rattle.om_cli.specs.World.{Files}
 use Rattle.om_cli.specs.declared.loading.Loaded.{Loaded}

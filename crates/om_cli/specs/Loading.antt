@@ -1,5 +1,5 @@
 -- Loading the object files of a command, in the order of its words.
-use Rattle.std.specs.Prelude.{◌≡◌, ◌≤◌, ◌<◌, ◌+◌, ◌-◌, ℕ, zero, suc, List, [], length, map, get_or, sum_by, Some, None, IsTrue}
+use Rattle.std.specs.Prelude.{◌≡◌, ◌≤◌, ◌<◌, ◌-◌, ℕ, zero, suc, List, [], length, map, get_or, sum_by, Some, None, IsTrue}
 use Rattle.om_fields.specs.Rules.{IsFirstFault}
 use Rattle.om_io.specs.Causes.{raised}
 use Rattle.om_io.specs.declared.store.LoadErr.{LoadErr}

@@ -1,5 +1,5 @@
 -- What `run [-n N] IMAGE` promises.
-use Rattle.std.specs.Prelude.{◌≡◌, ◌≢◌, ◌≤◌, ◌<◌, ◌++◌, ◌⊎◌, ℕ, List, length, Option, Some, None, IsTrue}
+use Rattle.std.specs.Prelude.{◌≡◌, ◌≤◌, ◌<◌, ◌++◌, ◌⊎◌, ℕ, List, length, Some, None, IsTrue}
 use Rattle.om_fields.specs.Rules.{IsFirstFault}
 use Rattle.om_image.specs.Answers.{IsRead}
 use Rattle.om_image.specs.NumState.{NumState, Exited, Trapped}

@@ -327,11 +327,13 @@ fn heap(rt: HostRuntime) -> Result<(), Fail> {
     Ok(())
 }
 
-/// What a run answers, where it stands, what it answers when it is run on, and what it wrote on descriptor 1.
+/// What a run answers, where it stands, how many bytes it has put on descriptor 1, what it answers when it is run on, and all
+/// that it put.
 #[derive(Drop)]
 struct Outcome {
     first: SymStep,
     place: Place,
+    count: usize,
     last: SymStep,
     bytes: Vec<u8>,
 }
@@ -347,13 +349,15 @@ fn outcome_of(
     let made = program(alloc, text_of(alloc, words)?)?;
     let mut run = SymRun::new(alloc, &made)?;
     let mut input = MemSource::new(bytes.to_vec(alloc)?, [read_fails].to_vec(alloc)?);
-    let mut out = MemSink::new(alloc, 99, [put_fails].to_vec(alloc)?)?;
+    let mut out = MemSink::new(alloc, 9000, [put_fails].to_vec(alloc)?)?;
     let first = run.run(99, &mut input, &mut out, &mut NullSink);
     let place = run.place();
+    let count = out.bytes().len();
     let last = run.run(99, &mut input, &mut out, &mut NullSink);
     Ok(Outcome {
         first,
         place,
+        count,
         last,
         bytes: out.bytes().to_vec(alloc)?,
     })
@@ -380,6 +384,22 @@ fn writing(rt: HostRuntime) -> Result<(), Fail> {
     let past = outcome_of(rt.alloc(), &words, &[], 9, 9)?;
     assert_eq!(rt; (past.first, past.last), (observes(16), observes(16)));
     assert_eq!(rt; past.bytes.as_slice(), b"".as_slice());
+    Ok(())
+}
+
+#[test]
+fn writing_in_pieces(rt: HostRuntime) -> Result<(), Fail> {
+    // lda r16,1(r31); lda r17,-8192(r30); lda r18,4097(r31); lda r0,4(r31); callsys; lda r16,0(r31); lda r0,1(r31); callsys
+    let words: [u32; 8] = [
+        0x221f0001, 0x223ee000, 0x225f1001, 0x201f0004, 0x83, 0x221f0000, 0x201f0001, 0x83,
+    ];
+    // the second of two puts fails: the bytes of the first stand, and the step that is taken again puts all of them
+    let failed = outcome_of(rt.alloc(), &words, &[], 9, 1)?;
+    assert_eq!(rt;
+        (failed.first, failed.place, failed.count),
+        (SymStep::WriteFault, place(16), 4096)
+    );
+    assert_eq!(rt; (failed.last, failed.bytes.len()), (SymStep::Exit(0), 8193));
     Ok(())
 }
 

@@ -1,4 +1,4 @@
-use Rattle.std.proofs.Common.{refl, ap, sym, subst}
+use Rattle.std.proofs.Common.{refl, sym, subst}
 use Rattle.std.specs.Prelude.{IsErr}
 use Rattle.om_cli.proofs.Adding.{adds_more}
 use Rattle.om_cli.proofs.Pieces.{piece_put, piece_failed}

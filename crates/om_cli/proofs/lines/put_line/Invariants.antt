@@ -1,4 +1,4 @@
-use Rattle.std.proofs.Common.{take, Ok, Result}
+use Rattle.std.proofs.Common.{take, Ok}
 use Rattle.om_cli.specs.Telling.{Adds, texts_of}
 use Rattle.om_cli.proofs.lines.put_line.Given as goal
 

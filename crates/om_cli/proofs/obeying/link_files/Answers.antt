@@ -1,6 +1,4 @@
-use Rattle.std.proofs.Common.{◌≡◌, ◌∙◌, subst, refl, ap}
-use Rattle.om_words.specs.Meaning.{Meaning}
-use Rattle.om_cli.specs.Answers.{MeaningAnswers}
+use Rattle.std.proofs.Common.{refl, ap}
 use Rattle.om_cli.specs.World.{stream}
 use Rattle.om_cli.proofs.Asking.{links_one}
 use Rattle.om_cli.proofs.obeying.link_files.Goals as goal

@@ -1,4 +1,4 @@
-use Rattle.std.proofs.Common.{◌≡◌, ap, inr, Err}
+use Rattle.std.proofs.Common.{ap, inr, Err}
 use Rattle.om_object.proofs.ThinFields.{thin_unbroken}
 use Rattle.om_cli.specs.declared.stopping.Stop.{Stop}
 use Rattle.om_cli.proofs.Stopped.{only_memory}
