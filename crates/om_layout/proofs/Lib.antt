@@ -7,3 +7,9 @@ pub mod Counting
 pub mod Slots
 pub mod Limits
 mod Finding
+mod Walking
+mod Extents
+mod Behind
+mod Noted
+mod Steps
+mod Together

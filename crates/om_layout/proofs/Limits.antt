@@ -21,11 +21,11 @@ use Rattle.om_layout.proofs.Slots.{few_slots}
 max_most : (a b n : ℕ) → a ≤ n → b ≤ n → max a b ≤ n
 max_most a b n h k = grind arith
 
-few_tables : (ts : List ℕ) (n : ℕ) → ((o t : ℕ) → slice_get ts o ≡ Some t → t < n) → table_count ts ≤ n
+pub few_tables : (ts : List ℕ) (n : ℕ) → ((o t : ℕ) → slice_get ts o ≡ Some t → t < n) → table_count ts ≤ n
 few_tables [] n h = omega arith
 few_tables (t ∷ ts) n h = max_most (suc t) (table_count ts) n (let a = h 0 t refl in omega (arith, a)) (few_tables ts n (λ o u e. h (suc o) u e))
 
-tables_most : (a : ℕ) (ts : List TableAt) → ((k : ℕ) (t : TableAt) → slice_get ts k ≡ Some t → length t.slots ≤ 8192) → tables_end a ts ≤ a + 65551 * length ts
+pub tables_most : (a : ℕ) (ts : List TableAt) → ((k : ℕ) (t : TableAt) → slice_get ts k ≡ Some t → length t.slots ≤ 8192) → tables_end a ts ≤ a + 65551 * length ts
 tables_most a [] h = omega arith
 tables_most a (t ∷ ts) h =
     let r = tables_most (round_16 a + 8 * length t.slots) ts (λ k u e. h (suc k) u e) in
@@ -39,11 +39,11 @@ regions_most a (r ∷ rs) =
     let s = sum_by-cons (λ (x : RegionAt). x.size) r rs in
     omega (arith, h, s)
 
-sum_map : {A B : Type 0} (f : B → ℕ) (h : A → B) (xs : List A) → sum_by f (map h xs) ≡ sum_by (λ x. f (h x)) xs
+pub sum_map : {A B : Type 0} (f : B → ℕ) (h : A → B) (xs : List A) → sum_by f (map h xs) ≡ sum_by (λ x. f (h x)) xs
 sum_map f h [] = refl
 sum_map f h (x ∷ xs) = sum_by-cons f (h x) (map h xs) ∙ ap (λ n. f (h x) + n) (sum_map f h xs) ∙ sym (sum_by-cons (λ x. f (h x)) x xs)
 
-size_of_extent : Region × ℕ → ℕ
+pub size_of_extent : Region × ℕ → ℕ
 size_of_extent e = e.1
 
 module _ (p : ProgramView) (prog : IsProgram p) (g : GraphView) (of : IsGraphOf p g) (limits : IsWithinLimits p) (l : LayoutView) (lay : IsDataLayout p g l) where

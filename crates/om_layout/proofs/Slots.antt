@@ -82,7 +82,7 @@ true_and false b e f = cc
 eqb_self : (n : ℕ) → (n == n) ≡ true
 eqb_self n = grind (arith, nat_tests)
 
-region_self : (r : Region) → region_eq r r ≡ true
+pub region_self : (r : Region) → region_eq r r ≡ true
 region_self (Sec o n) = true_and (o == o) (n == n) (eqb_self o) (eqb_self n)
 region_self (Common a) = eqb_self a
 region_self Stack = refl

@@ -1,5 +1,7 @@
 pub mod Layout
 pub mod Found
+pub mod Walked
+pub mod Placing
 pub mod Order
 pub mod Limits
 pub mod Facts

@@ -10,7 +10,7 @@ use std::marker::Model;
 
 const TEXT_BASE: u64 = 0x1_2000_0000;
 
-const DATA_BASE: u64 = 0x1_4000_0000;
+pub(crate) const DATA_BASE: u64 = 0x1_4000_0000;
 
 const STACK_BASE: u64 = 0x1_1ff0_0000;
 
