@@ -63,13 +63,13 @@ module _ (p : ProgramView) (g : GraphView) (l : LayoutView) where
   over_use at word Callsys result r base z start enc b is = absurd b
 
   module _ (c : IsEncodable p g l) (b : Block) (among : Has g.blocks b) (done : List Op) (o : Op) (rest : List Op) (split : ops_of b ≡ done ++ o ∷ rest) (highs : List (Option High)) (are : AreHighs done highs) (instr : Instr) (word : ℕ) (enc : Encodes word instr) where
-    abbrev at : Place
-    at = o.place
+    abbrev here : Place
+    here = o.place
 
     encodes : (i : Instr) → instr ≡ i → Encodes word i
     encodes i e = subst (λ (x : Instr). Encodes word x) e enc
 
-    use_formed : (i : Instr) (hi : Place) → o.kind ≡ op.UseLo i hi → IsInstrOf p l highs at.obj (op.UseLo i hi) instr → HasForm p g l at (op_act (ops_of b) (op.UseLo i hi)) word
+    use_formed : (i : Instr) (hi : Place) → o.kind ≡ op.UseLo i hi → IsInstrOf p l highs here.obj (op.UseLo i hi) instr → HasForm p g l here (op_act (ops_of b) (op.UseLo i hi)) word
     use_formed i hi e is =
         let u = op_fits p g l c b among done o rest split (op.UseLo i hi) e in
         let a : op_act (ops_of b) (op.UseLo i hi) ≡ act.UseLo i hi u.target = ap (op_act (ops_of b)) (sym e) ∙ use_act p g l c b among done o rest split i hi u in
@@ -85,58 +85,58 @@ module _ (p : ProgramView) (g : GraphView) (l : LayoutView) where
           kind = refl;
         }
         in
-        subst (λ (x : Act). HasForm p g l at x word) (sym a)
-        (u.least, far, over_use at word i instr u.ra (base_of i) u.disp (behind l at.obj h) enc u.base (is h (half_is p g l c b among done o rest split i hi u highs are)))
+        subst (λ (x : Act). HasForm p g l here x word) (sym a)
+        (u.least, far, over_use here word i instr u.ra (base_of i) u.disp (behind l here.obj h) enc u.base (is h (half_is p g l c b among done o rest split i hi u highs are)))
 
-    lda_formed : (ra rb : ℕ) (t : Target) → o.kind ≡ op.AddrLda ra rb t → IsLda l at.obj ra rb t instr → HasLda p g l at word ra rb t
+    lda_formed : (ra rb : ℕ) (t : Target) → o.kind ≡ op.AddrLda ra rb t → IsLda l here.obj ra rb t instr → HasLda p g l here word ra rb t
     lda_formed ra rb (target.Num n) e is =
         let k : rb ≡ 31 = (known p g l c b among done o rest split (act.AddrLda ra rb (target.Num n)) (ap (op_act (ops_of b)) e)).1 in
         (is.0, encodes (Mem Lda ra 31 is.0) (is.1 ∙ ap (λ (r : ℕ). Mem Lda ra r is.0) k), is.2, k)
-    lda_formed ra rb (target.Ptr r x) e is = (from_gp l at.obj (target.Ptr r x), encodes _ is, refl)
+    lda_formed ra rb (target.Ptr r x) e is = (from_gp l here.obj (target.Ptr r x), encodes _ is, refl)
     lda_formed ra rb (target.Code q) e is = absurd (op_fits p g l c b among done o rest split (op.AddrLda ra rb (target.Code q)) e)
 
-    slot_formed : (ra rb : ℕ) (t : Target) → o.kind ≡ op.Lit ra rb t → IsInstrOf p l highs at.obj (op.Lit ra rb t) instr → HasForm p g l at (act.Lit ra rb t) word
+    slot_formed : (ra rb : ℕ) (t : Target) → o.kind ≡ op.Lit ra rb t → IsInstrOf p l highs here.obj (op.Lit ra rb t) instr → HasForm p g l here (act.Lit ra rb t) word
     slot_formed ra rb t e is =
         let s = near_slotted p g l c b among done o rest split ra rb t e in
-        let slot : ℕ = start_at l (table_at l at.obj) + 8 * s.number in
+        let slot : ℕ = start_at l (table_at l here.obj) + 8 * s.number in
         (
-          pos slot -ℤ pos (gp_of l at.obj),
+          pos slot -ℤ pos (gp_of l here.obj),
           s.number,
-          encodes (Mem Ldq ra rb (pos slot -ℤ pos (gp_of l at.obj))) (is slot s.slot),
+          encodes (Mem Ldq ra rb (pos slot -ℤ pos (gp_of l here.obj))) (is slot s.slot),
           (s.table, s.found, s.there),
-          slot_exact slot (gp_of l at.obj),
+          slot_exact slot (gp_of l here.obj),
         )
 
-    pub formed : IsInstrOf p l highs at.obj o.kind instr → HasForm p g l at (op_act (ops_of b) o.kind) word
+    pub formed : IsInstrOf p l highs here.obj o.kind instr → HasForm p g l here (op_act (ops_of b) o.kind) word
     formed is = by_kind o.kind refl is
       where
-        by_kind : (k : OpKind) → o.kind ≡ k → IsInstrOf p l highs at.obj k instr → HasForm p g l at (op_act (ops_of b) k) word
+        by_kind : (k : OpKind) → o.kind ≡ k → IsInstrOf p l highs here.obj k instr → HasForm p g l here (op_act (ops_of b) k) word
         by_kind (op.Plain i) e is = encodes i is
         by_kind (op.Lit ra rb t) e is = slot_formed ra rb t e is
         by_kind (op.AddrLda ra rb t) e is = lda_formed ra rb t e is
         by_kind (op.AddrHi ra rb t least) e is = (
           least,
           record { block = b; op = o; ra = ra; rb = rb; among = among; has = has_op p g l c b among done o rest split; place = refl; kind = e },
-          encodes (Mem Ldah ra rb (high_part (from_gp l at.obj t +ℤ least))) is,
+          encodes (Mem Ldah ra rb (high_part (from_gp l here.obj t +ℤ least))) is,
         )
         by_kind (op.UseLo i hi) e is = use_formed i hi e is
         by_kind (op.UseGp i gp t) e is =
             let f = op_fits p g l c b among done o rest split (op.UseGp i gp t) e in
-            over_use at word i instr f.0 gp f.1 (from_gp l at.obj t) enc f.2 is
+            over_use here word i instr f.0 gp f.1 (from_gp l here.obj t) enc f.2 is
         by_kind (op.GpHi ra rb base) e is = (
-          high_part (from_base l at.obj base),
-          low_part (from_base l at.obj base),
-          encodes (Mem Ldah ra rb (high_part (from_base l at.obj base))) is,
-          (all_fit p g l c).pairs at.obj base,
+          high_part (from_base l here.obj base),
+          low_part (from_base l here.obj base),
+          encodes (Mem Ldah ra rb (high_part (from_base l here.obj base))) is,
+          (all_fit p g l c).pairs here.obj base,
         )
         by_kind (op.GpLo ra rb hi) e is =
             let k = known p g l c b among done o rest split (act.GpLo ra rb hi) (ap (op_act (ops_of b)) e) in
             (
               k.base,
-              high_part (from_base l at.obj k.base),
-              low_part (from_base l at.obj k.base),
-              encodes (Mem Lda ra rb (low_part (from_base l at.obj k.base))) (is k.base k.found),
-              (all_fit p g l c).pairs at.obj k.base,
+              high_part (from_base l here.obj k.base),
+              low_part (from_base l here.obj k.base),
+              encodes (Mem Lda ra rb (low_part (from_base l here.obj k.base))) (is k.base k.found),
+              (all_fit p g l c).pairs here.obj k.base,
               k.first,
             )
 

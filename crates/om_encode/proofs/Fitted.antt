@@ -151,14 +151,14 @@ module _ (p : ProgramView) (g : GraphView) (l : LayoutView) (c : IsEncodable p g
     pub known : (a : Act) → op_act (ops_of b) o.kind ≡ a → Sound p o.place a
     known a e = subst (λ (x : Act). Sound p o.place x) e (sound p c.program g c.graph (op_word (ops_of b) o) in_words)
 
-    op_fits : (k : OpKind) → o.kind ≡ k → OpFits p (gp_of l) (address_of l) b o.place k
+    pub op_fits : (k : OpKind) → o.kind ≡ k → OpFits p (gp_of l) (address_of l) b o.place k
     op_fits k e = subst (λ (x : OpKind). OpFits p (gp_of l) (address_of l) b o.place x) e (c.fits.ops b o among has_op)
 
     pub place_inside : o.place.obj < length g.counts
     place_inside =
         let places = words_in_place p c.program g c.graph in
         let w = places.words b (op_word (ops_of b) o) among has_word in
-        let q = (places.labels b.label (c.graph.graph.among b.label (label_has g.blocks b among))).0 in
+        let q = (places.labels b.label (c.graph.graph.among b.label (has_label g.blocks b among))).0 in
         let e = w.object in
         omega (arith, q, e)
 
@@ -182,14 +182,14 @@ module _ (p : ProgramView) (g : GraphView) (l : LayoutView) (c : IsEncodable p g
       pub use_sound : (is_target p u.target ≡ true) × (hi.obj ≡ o.place.obj)
       use_sound = known (act.UseLo i hi u.target) use_act
 
-      noted : last_high u.ra done ≡ Some (record { target = u.target; least = u.least })
-      noted = half_noted b ordered done o rest split load_word use_word u.ra u.rb u.target u.least u.used refl u.load
+      last_noted : last_high u.ra done ≡ Some (record { target = u.target; least = u.least })
+      last_noted = half_noted b ordered done o rest split load_word use_word u.ra u.rb u.target u.least u.used refl u.load
 
       pub half_is : (highs : List (Option High)) → AreHighs done highs → HasHalf highs i (record { target = u.target; least = u.least })
       half_is highs h below =
           h.each (base_of i) below
           ∙ ap (λ (r : ℕ). Some (last_high r done)) (base_is i u.ra u.disp u.base)
-          ∙ ap (λ (x : Option High). Some x) noted
+          ∙ ap (λ (x : Option High). Some x) last_noted
 
       load_fits : FitsHigh l o.place.obj u.target u.least
       load_fits =

@@ -46,12 +46,13 @@ item_is p obj k =
 
 -- each word of a text is there
 pub item_there : (p : ProgramView) (obj k : ℕ) (o : Option Item) → o ≡ item_at p (record { obj = obj; off = 4 * k }) → o ≡ None → k < word_count p obj → ⊥
-item_there p obj k o e n h =
-    let s = got_some (text_of p obj) k h in
-    none_some (sym n ∙ e ∙ item_is p obj k ∙ s.1)
+item_there p obj k o e n h = by_item (got_some (text_of p obj) k h)
   where
-    none_some : None ≡ Some s.0 → ⊥
-    none_some e = cc
+    by_item : (i : Item) × (slice_get (text_of p obj) k ≡ Some i) → ⊥
+    by_item (i, f) = none_some (sym n ∙ e ∙ item_is p obj k ∙ f)
+      where
+        none_some : None ≡ Some i → ⊥
+        none_some e = cc
 
 text_some : (p : ProgramView) (obj : ℕ) (t : List Item) → slice_get p.texts obj ≡ Some t → text_of p obj ≡ t
 text_some p obj t e = ap (λ (o : Option (List Item)). unwrap_or o []) e

@@ -1,6 +1,6 @@
 -- Image words that are written block by block and op by op, and what they are when all are.
 use Rattle.std.proofs.Common.{◌≡◌, inl, inr, ℕ, zero, suc, ◌+◌, ◌<◌, Bool, true, false, cond, ◌==◌, List, [], ◌∷◌, ◌++◌, length, replicate, Option, Some, None, refl, ap, sym, subst, ◌∙◌, arith, append_assoc}
-use Rattle.std.specs.Prelude.{map, All, is_some, slice_get, slice_set, find, option_and_then, flat_map, ℤ}
+use Rattle.std.specs.Prelude.{map, All, is_some, slice_get, slice_set, find, option_map, option_and_then, flat_map, ℤ}
 use Rattle.std.specs.Option.{option_or}
 use Rattle.std.proofs.lemmas.Bool.{eqb-true, eq-eqb}
 use Rattle.om_isa.specs.declared.instr.Instr.{Instr}
@@ -14,9 +14,10 @@ use Rattle.om_prog.specs.Act as act
 use Rattle.om_prog.specs.Act.{Act, Word, base_of}
 use Rattle.om_prog.specs.View.{ProgramView}
 use Rattle.om_graph.specs.declared.op.Op.{Op}
+use Rattle.om_graph.specs.declared.op.Last.{Last}
 use Rattle.om_graph.specs.declared.op.OpKind.{OpKind}
 use Rattle.om_graph.specs.declared.op.OpKind.TheVariants as op
-use Rattle.om_graph.specs.View.{Node, Block, GraphView, Has, ops_of, block_of, is_live_block, first_op_of, next_op_of, op_of, block_id_after, first_block_id, first_id, is_live_op, is_block}
+use Rattle.om_graph.specs.View.{Node, Block, GraphView, Has, ops_of, block_of, is_live_block, first_op_of, next_op_of, op_of, last_of, block_id_after, first_block_id, first_id, is_live_op, is_block}
 use Rattle.om_graph.specs.Run.{words, all_words, block_words, op_word, op_act, last_words}
 use Rattle.om_graph.specs.Held.{IsGraph}
 use Rattle.om_layout.specs.Layout.{LayoutView, position_of}
@@ -24,10 +25,10 @@ use Rattle.om_layout.proofs.Placing.{stands_at}
 use Rattle.om_layout.proofs.Sorted.{words_of}
 use Rattle.om_encode.specs.declared.highs.High.{High}
 use Rattle.om_encode.specs.Fields.{HasForm, HasLda, HasUse}
-use Rattle.om_encode.specs.Encoded.{IsEncodable, AreForms, Writes, WritesInstr, WritesOp, HasTrueWord, IsTextOf, op_words}
-use Rattle.om_encode.specs.Written.{AreHighs, FitsOp, last_high, high_in, noted}
+use Rattle.om_encode.specs.Encoded.{IsEncodable, AreForms, Writes, WritesInstr, WritesIf, WritesOp, HasTrueWord, IsTextOf, op_words}
+use Rattle.om_encode.specs.Written.{AreHighs, FitsOp, FitsLast, last_high, last_instr, high_in, noted}
 use Rattle.om_encode.proofs.Whole.{all_of}
-use Rattle.om_encode.proofs.Answered.{formed, at_word}
+use Rattle.om_encode.proofs.Answered.{formed, at_word, last_fits, last_formed}
 use Rattle.om_encode.proofs.Fitted.{fits_op}
 use Rattle.om_encode.proofs.UsesOfHighs.{map_append, last_more}
 use Rattle.om_encode.proofs.Walks.{append_none, AtBlock, ThisBlock, this_block, behind_block, AtOp, ThisOp, this_op, live_here, op_here, behind_op, all_ops, all_blocks, fewer_ops, fewer_blocks, ops_left, blocks_left, start_blocks}
@@ -158,11 +159,11 @@ no_highs highs e = record {
   each = λ r h. ap (λ (hs : List (Option High)). slice_get hs r) e ∙ none_at 32 r h;
 }
   where
-    length_of : (n : ℕ) → length (replicate n None) ≡ n
+    length_of : (n : ℕ) → length (replicate {A = Option High} n None) ≡ n
     length_of zero = refl
     length_of (suc n) = ap suc (length_of n)
 
-    none_at : (n k : ℕ) → k < n → slice_get (replicate n None) k ≡ Some None
+    none_at : (n k : ℕ) → k < n → slice_get (replicate {A = Option High} n None) k ≡ Some None
     none_at zero k h = absurd (omega arith)
     none_at (suc n) zero h = refl
     none_at (suc n) (suc k) h = none_at n k (omega (arith, h))
@@ -210,12 +211,12 @@ highs_more os o highs h = by_kind o.kind refl
             ap (slice_get (slice_set highs ra (Some (record { target = t; least = least })))) (sym same)
             ∙ set_same highs ra (Some (record { target = t; least = least })) (omega (arith, same, below, n))
             ∙ ap (λ (x : Option High). Some x)
-            (sym (last_more r os o ∙ ap (λ (x : Option High). option_or x (last_high r os)) (ap (high_in r) e ∙ ap (λ (b : Bool). cond b (Some (record { target = t; least = least })) None) s)))
+            (sym (last_more r os o ∙ ap (λ (x : Option High). option_or x (last_high r os)) (ap (high_in r) e ∙ ap (λ (b : Bool). cond {A = Option High} b (Some (record { target = t; least = least })) None) s)))
         by_test r below false s =
             set_other highs ra r (Some (record { target = t; least = least })) (λ q. differ (sym (eq-eqb ra r (sym q)) ∙ s))
             ∙ h.each r below
             ∙ ap (λ (x : Option High). Some x)
-            (sym (last_more r os o ∙ ap (λ (x : Option High). option_or x (last_high r os)) (ap (high_in r) e ∙ ap (λ (b : Bool). cond b (Some (record { target = t; least = least })) None) s)))
+            (sym (last_more r os o ∙ ap (λ (x : Option High). option_or x (last_high r os)) (ap (high_in r) e ∙ ap (λ (b : Bool). cond {A = Option High} b (Some (record { target = t; least = least })) None) s)))
           where
             differ : true ≡ false → ⊥
             differ e = cc
@@ -316,6 +317,26 @@ module _ (p : ProgramView) (g : GraphView) (l : LayoutView) (id : ℕ) where
     where
       same : Some so.block ≡ Some b → so.block ≡ b
       same e = cc
+
+-- ---- the end of a block
+
+module _ (p : ProgramView) (g : GraphView) (l : LayoutView) (c : IsEncodable p g l) (id : ℕ) where
+  last_is : (b : Block) (x : Last) → block_of g id ≡ Some b → last_of g id ≡ Some x → x ≡ b.last
+  last_is b x f e = same (sym e ∙ ap (λ (o : Option Block). option_map (λ (y : Block). y.last) o) f)
+    where
+      same : Some x ≡ Some b.last → x ≡ b.last
+      same e = cc
+
+  pub last_can : is_live_block g id ≡ true → (x : Last) → last_of g id ≡ Some x → FitsLast l x
+  last_can live x e =
+      let b = block_at g id live in
+      subst (λ (y : Last). FitsLast l y) (sym (last_is b.block x b.found e)) (last_fits p g l c b.block b.among)
+
+  pub block_done : (x : Last) (old mid new : List ℕ) → last_of g id ≡ Some x → ((b : Block) → block_of g id ≡ Some b → Writes p g l (op_words b) old mid) → WritesIf (last_instr l x) mid new → (b : Block) → block_of g id ≡ Some b → Writes p g l (block_words b) old new
+  block_done x old mid new e ops w b f =
+      writes_both p g l (op_words b) (last_words b.last) old mid new (ops b f)
+      (last_formed p g l b.last mid new (c.graph.form.lasts b (found_among (is_block id) g.blocks b f))
+      (subst (λ (y : Last). WritesIf (last_instr l y) mid new) (last_is b x f e) w))
 
 -- ---- block by block
 

@@ -85,7 +85,7 @@ map_parts f (x ∷ xs) (a ∷ pre) y bs e =
     tail : f x ∷ map f xs ≡ a ∷ (pre ++ y ∷ bs) → map f xs ≡ pre ++ y ∷ bs
     tail e = cc
 
-map_append : {A B : Type 0} (f : A → B) (xs ys : List A) → map f (xs ++ ys) ≡ map f xs ++ map f ys
+pub map_append : {A B : Type 0} (f : A → B) (xs ys : List A) → map f (xs ++ ys) ≡ map f xs ++ map f ys
 map_append f [] ys = refl
 map_append f (x ∷ xs) ys = ap (λ (l : List _). f x ∷ l) (map_append f xs ys)
 
@@ -112,7 +112,7 @@ last_more r xs o = last_append r xs (o ∷ [])
 no_high : (ops : List Op) (r : ℕ) (k : OpKind) → (Among (act_writes (op_act ops k)) r → ⊥) → high_in r k ≡ None
 no_high ops r (op.AddrHi ra rb t least) n = by_test (ra == r) refl
   where
-    by_test : (b : Bool) → (ra == r) ≡ b → cond b (Some (record { target = t; least = least })) None ≡ None
+    by_test : (b : Bool) → (ra == r) ≡ b → cond {A = Option High} b (Some (record { target = t; least = least })) None ≡ None
     by_test true e = absurd (n (inl (eqb-true ra r e)))
     by_test false e = refl
 no_high ops r (op.Plain i) n = refl
@@ -130,7 +130,7 @@ none_last ops r (x ∷ xs) n =
     let b = no_high ops r x.kind (n (op_word ops x) (inl refl)) in
     rw (a, b) refl
 
-here_high : (r rb : ℕ) (t : Target) (least : ℤ) → high_in r (op.AddrHi r rb t least) ≡ Some (record { target = t; least = least })
+pub here_high : (r rb : ℕ) (t : Target) (least : ℤ) → high_in r (op.AddrHi r rb t least) ≡ Some (record { target = t; least = least })
 here_high r rb t least = let e = eq-eqb r r refl in rw e refl
 
 -- of ops whose words are in order, a place has one

@@ -88,7 +88,8 @@ fn write_block(
         → Writes program.now graph.now layout.now (block_words b) text.old.items text.new.items) }
 {
     write_ops(graph, program, layout, block, text)?;
-    write_last(layout, graph.last(block), text)
+    write_last(layout, graph.last(block), text)?;
+    Ok(())
 }
 
 /// The text of an image: a word for each kept one, in order.
