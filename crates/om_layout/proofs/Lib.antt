@@ -6,3 +6,4 @@ pub mod Runs
 pub mod Counting
 pub mod Slots
 pub mod Limits
+mod Finding

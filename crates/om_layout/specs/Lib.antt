@@ -1,4 +1,5 @@
 pub mod Layout
+pub mod Found
 pub mod Order
 pub mod Limits
 pub mod Facts

@@ -3,5 +3,11 @@
 #![tactic(auto)]
 
 mod laws;
+mod layout;
+mod regions;
+mod slot_set;
+mod table;
 
 pub use laws::{layouts_place_words, layouts_stay_in_limits, runs_place_words};
+pub use layout::Layout;
+pub use table::{Placed, Table};
