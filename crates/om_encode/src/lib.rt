@@ -9,10 +9,10 @@ mod laws;
 mod map_walk;
 mod ops;
 mod text_part;
+#[cfg(test)]
+mod text_tests;
 mod text_walk;
 mod words;
-#[cfg(test)]
-mod words_tests;
 
 pub use laws::{
     counted_gives_headline, encoded_graphs_run, fits_in_every_layout, follows_and_runs,
