@@ -1,9 +1,7 @@
 -- The instruction that is written for a kept word has one of the word's forms.
-use Rattle.std.proofs.Common.{◌≡◌, inl, inr, ℕ, suc, ◌+◌, ◌*◌, ◌/◌, ◌%◌, ◌<◌, ◌≤◌, Bool, true, false, cond, ◌==◌, List, [], ◌∷◌, ◌++◌, length, Option, Some, None, refl, ap, sym, subst, ◌∙◌, arith}
-use Rattle.std.specs.Prelude.{map, ℤ, pos, ◌+ℤ◌, ◌-ℤ◌, ◌*ℤ◌, slice_get, slice_index_or, option_and_then, is_some, FitsSigned}
-use Rattle.std.specs.Int.{w16, w64, cast_unsigned}
+use Rattle.std.proofs.Common.{◌≡◌, inl, ℕ, ◌+◌, ◌*◌, ◌/◌, ◌%◌, ◌<◌, Bool, true, false, cond, ◌==◌, List, [], ◌∷◌, ◌++◌, length, Option, Some, None, refl, ap, sym, subst, ◌∙◌, arith}
+use Rattle.std.specs.Prelude.{ℤ, pos, ◌+ℤ◌, ◌-ℤ◌, ◌*ℤ◌, slice_get, slice_index_or, option_and_then, is_some}
 use Rattle.std.proofs.lemmas.Int.{ints}
-use Rattle.std.proofs.lemmas.Bool.{eqb-true}
 use Rattle.om_isa.specs.declared.instr.BrOp.{BrOp}
 use Rattle.om_isa.specs.declared.instr.Instr.{Instr}
 use Rattle.om_isa.specs.declared.instr.Instr.TheVariants.{Mem, Jump, Branch, Alu, Cmov, Misc, Fnop, Halt, Callsys}
@@ -22,25 +20,24 @@ use Rattle.om_graph.specs.declared.op.OpKind.TheVariants as op
 use Rattle.om_graph.specs.declared.op.Last.{Last}
 use Rattle.om_graph.specs.declared.op.Last.TheVariants as last
 use Rattle.om_graph.specs.View.{Block, GraphView, Has, ops_of}
-use Rattle.om_graph.specs.Run.{words, block_words, op_word, op_act, last_words}
+use Rattle.om_graph.specs.Run.{words, op_act, last_words}
 use Rattle.om_graph.specs.Form.{IsCondition, LastForm}
 use Rattle.om_graph.specs.Uses.{IsBaseUse}
-use Rattle.om_graph.specs.Fits.{HighUseFits}
 use Rattle.om_graph.specs.Index.{InReach, BranchInReach}
 use Rattle.om_graph.proofs.Labels.{in_all, has_in, has_label, append_right}
 use Rattle.om_graph.proofs.OfProgram.{words_in_place, index_below, count_is, map_length}
 use Rattle.om_graph.proofs.LiftedOf.{item_get}
-use Rattle.om_layout.specs.Layout.{LayoutView, position_of, code_at, gp_of, table_at, start_at}
+use Rattle.om_layout.specs.Layout.{LayoutView, position_of, gp_of, table_at, start_at}
 use Rattle.om_layout.specs.Order.{IsPlaceOf, words_before}
 use Rattle.om_layout.proofs.Sorted.{words_of}
 use Rattle.om_encode.specs.declared.highs.High.{High}
 use Rattle.om_encode.specs.Halves.{high_part, from_gp, from_base}
 use Rattle.om_encode.specs.Fields.{HasForm, HasUse, HasLda, IsFar}
-use Rattle.om_encode.specs.Fitting.{AllFits, low_part, branch_disp}
+use Rattle.om_encode.specs.Fitting.{low_part, branch_disp}
 use Rattle.om_encode.specs.Encoded.{IsEncodable, Writes, WritesInstr, WritesIf}
 use Rattle.om_encode.specs.Written.{FitsBranch, FitsLast, IsOver, IsLda, IsInstrOf, AreHighs, behind, last_instr, cond_instr}
-use Rattle.om_encode.proofs.Fitted.{all_fit, op_fits, known, has_op, near_slotted, use_act, use_sound, half_is, position_small}
-use Rattle.om_encode.proofs.Sound.{Sound, sound, HasBase}
+use Rattle.om_encode.proofs.Fitted.{all_fit, op_fits, known, has_op, near_slotted, use_act, half_is, position_small}
+use Rattle.om_encode.proofs.Sound.{sound}
 
 slot_exact : (slot gp : ℕ) → pos gp +ℤ (pos slot -ℤ pos gp) ≡ pos slot
 slot_exact slot gp = omega (arith, ints)
@@ -98,8 +95,7 @@ module _ (p : ProgramView) (g : GraphView) (l : LayoutView) where
     slot_formed : (ra rb : ℕ) (t : Target) → o.kind ≡ op.Lit ra rb t → IsInstrOf p l highs here.obj (op.Lit ra rb t) instr → HasForm p g l here (act.Lit ra rb t) word
     slot_formed ra rb t e is =
         let s = near_slotted p g l c b among done o rest split ra rb t e in
-        let slot : ℕ = start_at l (table_at l here.obj) + 8 * s.number in
-        (
+        let slot : ℕ = start_at l (table_at l here.obj) + 8 * s.number in (
           pos slot -ℤ pos (gp_of l here.obj),
           s.number,
           encodes (Mem Ldq ra rb (pos slot -ℤ pos (gp_of l here.obj))) (is slot s.slot),
@@ -130,8 +126,7 @@ module _ (p : ProgramView) (g : GraphView) (l : LayoutView) where
           (all_fit p g l c).pairs here.obj base,
         )
         by_kind (op.GpLo ra rb hi) e is =
-            let k = known p g l c b among done o rest split (act.GpLo ra rb hi) (ap (op_act (ops_of b)) e) in
-            (
+            let k = known p g l c b among done o rest split (act.GpLo ra rb hi) (ap (op_act (ops_of b)) e) in (
               k.base,
               high_part (from_base l here.obj k.base),
               low_part (from_base l here.obj k.base),

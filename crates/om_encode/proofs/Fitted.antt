@@ -1,46 +1,39 @@
 -- In the layout of a graph that can be encoded each number that a word needs fits its field.
-use Rattle.std.proofs.Common.{◌≡◌, ◌⊎◌, inl, inr, ℕ, suc, ◌+◌, ◌-◌, ◌*◌, ◌/◌, ◌%◌, ◌^◌, ◌<◌, ◌≤◌, Bool, true, false, cond, ◌==◌, List, [], ◌∷◌, ◌++◌, length, Option, Some, None, refl, ap, sym, subst, ◌∙◌, arith, lit<}
-use Rattle.std.specs.Prelude.{map, ℤ, pos, negsuc, ◌+ℤ◌, ◌-ℤ◌, ◌*ℤ◌, ◌≤ℤ◌, slice_get, slice_index_or, option_and_then, is_some, FitsSigned}
-use Rattle.std.specs.Int.{w16, w64, cast_signed, int_div_euclid}
+use Rattle.std.proofs.Common.{◌≡◌, inl, ℕ, ◌+◌, ◌*◌, ◌^◌, ◌<◌, ◌≤◌, true, List, ◌∷◌, ◌++◌, length, Option, Some, None, refl, ap, sym, subst, ◌∙◌, arith}
+use Rattle.std.specs.Prelude.{map, ℤ, pos, negsuc, ◌+ℤ◌, ◌-ℤ◌, ◌*ℤ◌, ◌≤ℤ◌, is_some, FitsSigned}
+use Rattle.std.specs.Int.{w16, int_div_euclid}
 use Rattle.std.proofs.lemmas.Int.{ints}
-use Rattle.std.proofs.lemmas.Bool.{eqb-true, le-leb}
-use Rattle.om_isa.specs.declared.instr.Access.TheVariants.{Address}
+use Rattle.std.proofs.lemmas.Bool.{le-leb}
 use Rattle.om_isa.specs.declared.instr.Instr.{Instr}
 use Rattle.om_isa.specs.declared.instr.Instr.TheVariants.{Mem, Jump, Branch, Alu, Cmov, Misc, Fnop, Halt, Callsys}
-use Rattle.om_isa.specs.Registers.{access_of}
 use Rattle.om_value.specs.declared.value.Place.{Place}
 use Rattle.om_value.specs.declared.value.Region.{Region}
 use Rattle.om_value.specs.declared.value.Region.TheVariants.{Sec, Common, Stack, Heap}
 use Rattle.om_value.specs.declared.value.Target.{Target}
 use Rattle.om_value.specs.declared.value.Target.TheVariants as target
-use Rattle.om_prog.specs.declared.item.Item.{Item}
 use Rattle.om_prog.specs.declared.region.RegionInit.{RegionInit}
 use Rattle.om_prog.specs.Act as act
 use Rattle.om_prog.specs.Act.{Act, Word, base_of}
-use Rattle.om_prog.specs.View.{ProgramView, item_at, is_word, init_of, size_of, size_or_none}
-use Rattle.om_prog.specs.Valid.{IsProgram, is_target, is_up_to}
+use Rattle.om_prog.specs.View.{ProgramView, init_of, size_of, size_or_none}
+use Rattle.om_prog.specs.Valid.{is_target, is_up_to}
 use Rattle.om_graph.specs.declared.op.Op.{Op}
 use Rattle.om_graph.specs.declared.op.OpKind.{OpKind}
 use Rattle.om_graph.specs.declared.op.OpKind.TheVariants as op
-use Rattle.om_graph.specs.declared.op.Last.{Last}
-use Rattle.om_graph.specs.declared.op.Last.TheVariants as last
 use Rattle.om_graph.specs.View.{Block, GraphView, Has, ops_of}
 use Rattle.om_graph.specs.Run.{words, block_words, op_word, op_act, last_words}
 use Rattle.om_graph.specs.Form.{Ordered}
 use Rattle.om_graph.specs.Uses.{IsBaseUse}
 use Rattle.om_graph.specs.Fits.{OpFits, HighUseFits, IsWithin, IsHighPart, LdaFits}
-use Rattle.om_graph.specs.Index.{InReach, BranchInReach}
 use Rattle.om_graph.proofs.Labels.{in_all, has_label, append_left, append_right}
-use Rattle.om_graph.proofs.OfProgram.{to_map, words_in_place, index_below, map_length}
-use Rattle.om_layout.specs.Layout.{LayoutView, position_of, code_at, gp_of, gp_at, table_at, address_of, start_at}
-use Rattle.om_layout.specs.Order.{IsPlaceOf}
+use Rattle.om_graph.proofs.OfProgram.{to_map, words_in_place}
+use Rattle.om_layout.specs.Layout.{LayoutView, position_of, code_at, gp_of, table_at, address_of, start_at}
 use Rattle.om_encode.specs.declared.highs.High.{High}
-use Rattle.om_encode.specs.Halves.{high_part, from_gp, from_base}
-use Rattle.om_encode.specs.Fitting.{AllFits, low_part, branch_disp}
+use Rattle.om_encode.specs.Halves.{high_part, from_gp}
+use Rattle.om_encode.specs.Fitting.{AllFits}
 use Rattle.om_encode.specs.Encoded.{IsEncodable}
-use Rattle.om_encode.specs.Written.{IsNear, HasNearSlot, FitsLda, FitsHigh, FitsPair, FitsUse, FitsBranch, FitsCond, FitsLast, FitsLow, FitsOp, FitsOver, HasHalf, AreHighs, behind, last_high}
+use Rattle.om_encode.specs.Written.{IsNear, HasNearSlot, FitsLda, FitsHigh, FitsPair, FitsUse, FitsOp, FitsOver, HasHalf, AreHighs, behind, last_high}
 use Rattle.om_encode.proofs.Fitting.{inside, most, code_low, gp_between, near_between, fits}
-use Rattle.om_encode.proofs.Sound.{Sound, sound, IsPairAt}
+use Rattle.om_encode.proofs.Sound.{Sound, sound}
 use Rattle.om_encode.proofs.Slotted.{HasSlotIn, slotted}
 use Rattle.om_encode.proofs.UsesOfHighs.{half_noted, same_at}
 use Rattle.om_encode.proofs.Walks.{mid_has}

@@ -1,7 +1,7 @@
 -- The words of a map that are written text by text, and that they are what a true map has.
-use Rattle.std.proofs.Common.{◌≡◌, inl, inr, ℕ, zero, suc, ◌+◌, ◌*◌, ◌/◌, ◌%◌, ◌<◌, ◌≤◌, min, Bool, true, false, cond, ◌&&◌, ◌==◌, nat_lt, nat_le, List, [], ◌∷◌, ◌++◌, length, take, Option, Some, None, refl, ap, sym, subst, ◌∙◌, arith, lit<, ◌^◌, append_assoc}
-use Rattle.std.specs.Prelude.{map, sum, All, find, is_some, slice_get, slice_index_or, unwrap_or, option_and_then}
-use Rattle.std.proofs.lemmas.Bool.{eqb-true, eq-eqb, lt-ltb, ltb-true}
+use Rattle.std.proofs.Common.{◌≡◌, inl, inr, ℕ, zero, suc, ◌+◌, ◌*◌, ◌/◌, ◌%◌, ◌<◌, ◌≤◌, min, Bool, true, false, cond, ◌==◌, nat_lt, List, [], ◌∷◌, ◌++◌, length, take, Option, Some, None, refl, ap, sym, subst, ◌∙◌, arith, lit<, ◌^◌, append_assoc}
+use Rattle.std.specs.Prelude.{map, sum, find, is_some, slice_get, slice_index_or, unwrap_or, option_and_then}
+use Rattle.std.proofs.lemmas.Bool.{eq-eqb, lt-ltb, ltb-true}
 use Rattle.std.proofs.lemmas.Bool.Decides.{nat_tests}
 use Rattle.std.proofs.lemmas.List.{take_all}
 use Rattle.std.proofs.lemmas.List.Sums.{sum_by-cons}
@@ -17,7 +17,7 @@ use Rattle.om_graph.specs.View.{GraphView, Has, place_lt}
 use Rattle.om_graph.specs.Run.{words}
 use Rattle.om_graph.specs.LeftIn.{is_kept}
 use Rattle.om_graph.specs.Index.{index_of}
-use Rattle.om_graph.proofs.Labels.{same_place, self_eq}
+use Rattle.om_graph.proofs.Labels.{same_place}
 use Rattle.om_graph.proofs.LiftedOf.{item_get}
 use Rattle.om_graph.proofs.OfProgram.{index_below, count_is}
 use Rattle.om_image.specs.declared.map.MapWord.{MapWord}

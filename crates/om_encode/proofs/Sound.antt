@@ -1,7 +1,6 @@
 -- What is known of the words of a graph by the program that it is of: what they name is there.
-use Rattle.std.proofs.Common.{◌≡◌, ◌⊎◌, inl, inr, ℕ, ◌+◌, ◌*◌, ◌/◌, ◌%◌, Bool, true, false, cond, ◌&&◌, ◌==◌, List, [], ◌∷◌, ◌++◌, Option, Some, None, refl, ap, sym, subst, ◌∙◌, arith}
-use Rattle.std.specs.Prelude.{slice_get, option_and_then, option_map, is_some, ℤ, count_by}
-use Rattle.std.proofs.lemmas.Bool.{eqb-true}
+use Rattle.std.proofs.Common.{◌≡◌, inl, inr, ℕ, ◌*◌, ◌/◌, ◌%◌, Bool, true, false, cond, ◌==◌, List, [], ◌∷◌, ◌++◌, Option, Some, None, refl, ap, sym, subst, ◌∙◌, arith}
+use Rattle.std.specs.Prelude.{slice_get, option_and_then, option_map, ℤ, count_by}
 use Rattle.om_isa.specs.declared.instr.BrOp.TheVariants.{Bsr}
 use Rattle.om_isa.specs.declared.instr.MemOp.{MemOp}
 use Rattle.om_isa.specs.declared.instr.MemOp.TheVariants.{Lda, Ldah, Ldbu, LdqU, Ldwu, Stw, Stb, StqU, Ldl, Ldq, Stl, Stq}
@@ -15,7 +14,7 @@ use Rattle.om_prog.specs.declared.item.Role.{Role}
 use Rattle.om_prog.specs.declared.item.Role.TheVariants as role
 use Rattle.om_prog.specs.Act.{Act, Plain, Lit, GpHi, GpLo, To, AddrLda, AddrHi, UseLo, UseGp, Wrong, Word}
 use Rattle.om_prog.specs.View.{ProgramView, item_at, is_word}
-use Rattle.om_prog.specs.Script.{act_of, program_fetch}
+use Rattle.om_prog.specs.Script.{act_of}
 use Rattle.om_prog.specs.Valid.{IsProgram, fits, is_target, is_high, is_high_role, is_low_of}
 use Rattle.om_graph.specs.View.{Shape, GraphView, Has}
 use Rattle.om_graph.specs.Run.{words, shape_words}
@@ -23,7 +22,6 @@ use Rattle.om_graph.specs.Uses.{Between}
 use Rattle.om_graph.specs.OfProgram.{IsGraphOf, IsForm, as_was, near, number, far, by_gp, by_high, byte, called, direct, CallsTo}
 use Rattle.om_graph.proofs.Labels.{has_in, equal_places}
 use Rattle.om_graph.proofs.LiftedOf.{item_get}
-use Rattle.om_graph.proofs.LiftedWords.{item_word}
 use Rattle.om_graph.proofs.OfProgram.{IsShape, word_from, shape_word, shape_at, block_shape}
 use Rattle.om_lockstep.proofs.Small.{and_true}
 use Rattle.om_encode.specs.Fields.{IsBaseOf}

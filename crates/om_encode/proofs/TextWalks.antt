@@ -1,6 +1,6 @@
 -- Image words that are written block by block and op by op, and what they are when all are.
-use Rattle.std.proofs.Common.{◌≡◌, inl, inr, ℕ, zero, suc, ◌+◌, ◌<◌, Bool, true, false, cond, ◌==◌, List, [], ◌∷◌, ◌++◌, length, replicate, Option, Some, None, refl, ap, sym, subst, ◌∙◌, arith, append_assoc}
-use Rattle.std.specs.Prelude.{map, All, is_some, slice_get, slice_set, find, option_map, option_and_then, flat_map, ℤ}
+use Rattle.std.proofs.Common.{◌≡◌, inl, inr, ℕ, zero, suc, ◌<◌, Bool, true, false, cond, ◌==◌, List, [], ◌∷◌, ◌++◌, length, replicate, Option, Some, None, refl, ap, sym, subst, ◌∙◌, arith, append_assoc}
+use Rattle.std.specs.Prelude.{map, is_some, slice_get, slice_set, find, option_map, option_and_then, ℤ}
 use Rattle.std.specs.Option.{option_or}
 use Rattle.std.proofs.lemmas.Bool.{eqb-true, eq-eqb}
 use Rattle.om_isa.specs.declared.instr.Instr.{Instr}
@@ -18,14 +18,14 @@ use Rattle.om_graph.specs.declared.op.Last.{Last}
 use Rattle.om_graph.specs.declared.op.OpKind.{OpKind}
 use Rattle.om_graph.specs.declared.op.OpKind.TheVariants as op
 use Rattle.om_graph.specs.View.{Node, Block, GraphView, Has, ops_of, block_of, is_live_block, first_op_of, next_op_of, op_of, last_of, block_id_after, first_block_id, first_id, is_live_op, is_block}
-use Rattle.om_graph.specs.Run.{words, all_words, block_words, op_word, op_act, last_words}
+use Rattle.om_graph.specs.Run.{words, all_words, block_words, op_word, last_words}
 use Rattle.om_graph.specs.Held.{IsGraph}
 use Rattle.om_layout.specs.Layout.{LayoutView, position_of}
 use Rattle.om_layout.proofs.Placing.{stands_at}
 use Rattle.om_layout.proofs.Sorted.{words_of}
 use Rattle.om_encode.specs.declared.highs.High.{High}
 use Rattle.om_encode.specs.Fields.{HasForm, HasLda, HasUse}
-use Rattle.om_encode.specs.Encoded.{IsEncodable, AreForms, Writes, WritesInstr, WritesIf, WritesOp, HasTrueWord, IsTextOf, op_words}
+use Rattle.om_encode.specs.Encoded.{IsEncodable, AreForms, Writes, WritesIf, WritesOp, IsTextOf, op_words}
 use Rattle.om_encode.specs.Written.{AreHighs, FitsOp, FitsLast, last_high, last_instr, high_in, noted}
 use Rattle.om_encode.proofs.Whole.{all_of}
 use Rattle.om_encode.proofs.Answered.{formed, at_word, last_fits, last_formed}

@@ -1,21 +1,20 @@
 -- Where a load or store is over the half of a load that became LDAH, its register has that half: the last such load into the
 -- register before it in its block is the one that it names.
-use Rattle.std.proofs.Common.{◌≡◌, ◌⊎◌, inl, inr, ℕ, suc, ◌+◌, ◌<◌, ◌≤◌, Bool, true, false, cond, ◌==◌, List, [], ◌∷◌, ◌++◌, Option, Some, None, refl, ap, sym, subst, ◌∙◌, arith, append_assoc}
+use Rattle.std.proofs.Common.{◌≡◌, inl, inr, ℕ, Bool, true, false, cond, ◌==◌, List, [], ◌∷◌, ◌++◌, Option, Some, None, refl, ap, sym, subst, ◌∙◌, append_assoc}
 use Rattle.std.specs.Prelude.{map, ℤ}
 use Rattle.std.specs.Option.{option_or}
 use Rattle.std.proofs.lemmas.Bool.{eqb-true, eq-eqb}
-use Rattle.om_value.specs.declared.value.Place.{Place}
 use Rattle.om_value.specs.declared.value.Target.{Target}
-use Rattle.om_prog.specs.Act.{Act, AddrHi, UseLo, Word, act_writes}
+use Rattle.om_prog.specs.Act.{Word, act_writes}
 use Rattle.om_prog.specs.Flow.{Among}
 use Rattle.om_graph.specs.declared.op.Op.{Op}
 use Rattle.om_graph.specs.declared.op.OpKind.{OpKind}
 use Rattle.om_graph.specs.declared.op.OpKind.TheVariants as op
-use Rattle.om_graph.specs.View.{Block, GraphView, Has, ops_of}
+use Rattle.om_graph.specs.View.{Block, Has, ops_of}
 use Rattle.om_graph.specs.Run.{block_words, op_word, op_act, last_words}
-use Rattle.om_graph.specs.Form.{After, Ordered}
+use Rattle.om_graph.specs.Form.{Ordered}
 use Rattle.om_graph.specs.Uses.{Between, NoneWrites, IsLocalUse}
-use Rattle.om_graph.proofs.Labels.{append_left, append_right}
+use Rattle.om_graph.proofs.Labels.{append_left}
 use Rattle.om_graph.proofs.OfProgram.{to_map}
 use Rattle.om_encode.specs.declared.highs.High.{High}
 use Rattle.om_encode.specs.Written.{high_in, last_high}

@@ -1,13 +1,11 @@
 -- A graph's blocks, and the ops of a block, one behind another by their ids.
 use Rattle.std.proofs.Common.{◌≡◌, inl, inr, ℕ, suc, ◌<◌, Bool, true, false, cond, ◌==◌, List, [], ◌∷◌, ◌++◌, length, Option, Some, None, refl, ap, sym, subst, ◌∙◌, arith}
-use Rattle.std.specs.Prelude.{map, find, flat_map, is_some, option_map, option_and_then}
+use Rattle.std.specs.Prelude.{map, find, is_some, option_map, option_and_then}
 use Rattle.std.proofs.lemmas.Bool.{eq-eqb, ne_eqb, eqb-true}
-use Rattle.om_graph.specs.declared.op.Op.{Op}
-use Rattle.om_graph.specs.declared.op.Last.{Last}
-use Rattle.om_graph.specs.View.{Node, Block, GraphView, Has, is_block, is_node, holds_node, node_in, block_of, block_with, node_of, op_of, last_of, first_id, id_after, first_op_of, next_op_of, first_block_id, block_id_after, is_live_block, is_live_op}
+use Rattle.om_graph.specs.View.{Node, Block, GraphView, Has, is_block, is_node, holds_node, node_in, block_of, block_with, op_of, first_id, id_after, next_op_of, first_block_id, block_id_after, is_live_op}
 use Rattle.om_graph.specs.Held.{Apart, IsGraph, block_ids, node_ids, op_ids}
-use Rattle.om_graph.proofs.Labels.{append_left, append_right, has_append}
-use Rattle.om_graph.proofs.OfProgram.{to_map, of_map}
+use Rattle.om_graph.proofs.Labels.{append_left, append_right}
+use Rattle.om_graph.proofs.OfProgram.{to_map}
 
 -- ---- by ids that stand once
 

@@ -3,17 +3,13 @@
 use Rattle.std.specs.Prelude.{◌≡◌, ℕ, ◌^◌, ◌<◌, ◌==◌, ℤ, ◌+ℤ◌, ◌-ℤ◌, ◌*ℤ◌, pos, if◌then◌else◌, List, [], ◌∷◌, length, Option, Some, None, option_and_then, slice_get, slice_set, FitsSigned}
 use Rattle.std.specs.Int.{w16, w64, cast_signed, cast_unsigned}
 use Rattle.std.specs.Option.{option_or}
-use Rattle.om_isa.specs.declared.instr.Access.TheVariants.{Address}
-use Rattle.om_isa.specs.declared.instr.BrOp.{BrOp}
 use Rattle.om_isa.specs.declared.instr.Instr.{Instr}
 use Rattle.om_isa.specs.declared.instr.Instr.TheVariants.{Mem, Branch}
 use Rattle.om_isa.specs.declared.instr.MemOp.TheVariants.{Lda, Ldah, Ldq}
 use Rattle.om_isa.specs.Fields.{IsDisp}
-use Rattle.om_isa.specs.Registers.{access_of}
 use Rattle.om_value.specs.declared.value.Place.{Place}
 use Rattle.om_value.specs.declared.value.Target.{Target}
 use Rattle.om_value.specs.declared.value.Target.TheVariants as target
-use Rattle.om_prog.specs.declared.item.Item.{Item}
 use Rattle.om_prog.specs.declared.item.Role.{Role}
 use Rattle.om_prog.specs.declared.item.Role.TheVariants as role
 use Rattle.om_prog.specs.Act.{base_of}

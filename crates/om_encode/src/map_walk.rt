@@ -29,7 +29,12 @@ fn word_at(layout: &Layout, at: Place, item: Item) -> MapWord
 }
 
 // Puts the words of an object behind others.
-fn add_text(program: &Program, layout: &Layout, obj: u32, words: &mut Vec<MapWord>) -> Result<(), NoMemory>
+fn add_text(
+    program: &Program,
+    layout: &Layout,
+    obj: u32,
+    words: &mut Vec<MapWord>,
+) -> Result<(), NoMemory>
     requires { IsProgram program.now }
     ensures { IfOk result (λ u. words.new.items ≡ words.old.items ++ told_words layout.now obj 0 (text_of program.now obj)) }
 {
@@ -43,7 +48,11 @@ fn add_text(program: &Program, layout: &Layout, obj: u32, words: &mut Vec<MapWor
 }
 
 /// The words of a map, in order of object and offset.
-pub(crate) fn map_words_of(alloc: Global, program: &Program, layout: &Layout) -> Result<Vec<MapWord>, NoMemory>
+pub(crate) fn map_words_of(
+    alloc: Global,
+    program: &Program,
+    layout: &Layout,
+) -> Result<Vec<MapWord>, NoMemory>
     ensures { IfOk result (λ words. words.items ≡ told_texts layout.now 0 program.now.texts) }
 {
     let mut words = Vec::new(alloc);

@@ -147,14 +147,7 @@ fn pair_base(program: &Program, hi: Place) -> Option<Place>
 }
 
 // The LDA of the pair whose LDAH stands at a place.
-fn low_of_pair(
-    program: &Program,
-    layout: &Layout,
-    obj: u32,
-    ra: Reg,
-    rb: Reg,
-    hi: Place,
-) -> Instr
+fn low_of_pair(program: &Program, layout: &Layout, obj: u32, ra: Reg, rb: Reg, hi: Place) -> Instr
     requires { FitsLow program.now layout.now obj hi }
     ensures { (base : PlaceOf) → pair_base_of program.now hi ≡ Some base → result ≡ MemWord LdaOp ra rb (low_of (from_base_of layout.now obj base)) }
 {

@@ -35,7 +35,10 @@ fn write_op(
     ensures written { IfOk result (λ u. WritesOp program.now layout.now highs.old op.now text.old.items text.new.items) }
     ensures highs { IfOk result (λ u. highs.new ≡ noted highs.old op.now.kind) }
 {
-    write_instr(text, op_instr(program, layout, highs, op.place.obj, &op.kind))?;
+    write_instr(
+        text,
+        op_instr(program, layout, highs, op.place.obj, &op.kind),
+    )?;
     note(highs, &op.kind);
     Ok(())
 }
