@@ -19,7 +19,7 @@ differ : {b : Bool} → b ≡ true → b ≡ false → ⊥
 differ e f = cc
 
 -- a word after another has another place
-after_apart : (ws : List Word) (w x : Word) → After w ws → Has ws x → x.at ≡ w.at → ⊥
+pub after_apart : (ws : List Word) (w x : Word) → After w ws → Has ws x → x.at ≡ w.at → ⊥
 after_apart [] w x a h e = h
 after_apart (y ∷ ys) w x a (inl s) e =
     let o = ap (λ (z : Word). z.at.obj) s ∙ ap (λ (q : Place). q.obj) e in

@@ -60,19 +60,19 @@ given_is Stack e = cc
 given_is Heap e = cc
 
 module _ (p : ProgramView) (g : GraphView) (l : LayoutView) (prog : IsProgram p) (of : IsGraphOf p g) (limits : IsWithinLimits p) (lay : IsLayoutOf p g l) where
-  inside : StaysInLimits g l
+  pub inside : StaysInLimits g l
   inside = stays p prog g of limits l lay.data_part
 
   sizes : SizesMatch p l
   sizes = sizes_match p l prog.once lay.data_part.extents
 
-  most : (q : Place) → position_of l q ≤ length (words g)
+  pub most : (q : Place) → position_of l q ≤ length (words g)
   most q = (lays_out p prog g of l lay (λ q. Unit {0})).words.most q
 
-  code_low : (q : Place) → (0x120000000 ≤ code_at l q) × (code_at l q ≤ 0x121000000)
+  pub code_low : (q : Place) → (0x120000000 ≤ code_at l q) × (code_at l q ≤ 0x121000000)
   code_low q = let a = most q in let b = inside.words in (omega arith, omega (arith, a, b))
 
-  gp_between : (k : ℕ) → (0x140008000 ≤ gp_at l k) × (gp_at l k ≤ 0x144008000)
+  pub gp_between : (k : ℕ) → (0x140008000 ≤ gp_at l k) × (gp_at l k ≤ 0x144008000)
   gp_between k =
       let h = table_start p l sizes lay.data_part.tables lay.data_part.regions inside.data_part k in
       let a = h.0 in
@@ -80,7 +80,7 @@ module _ (p : ProgramView) (g : GraphView) (l : LayoutView) (prog : IsProgram p)
       (omega (arith, a), omega (arith, b))
 
   -- a byte of a region or its end
-  near_between : (r : Region) (x : ℕ) → is_up_to p x (init_of p r) ≡ true → (0x120000000 ≤ address_of l (target.Ptr r x)) × (address_of l (target.Ptr r x) ≤ 0x144000000)
+  pub near_between : (r : Region) (x : ℕ) → is_up_to p x (init_of p r) ≡ true → (0x120000000 ≤ address_of l (target.Ptr r x)) × (address_of l (target.Ptr r x) ≤ 0x144000000)
   near_between r x up = by_init (init_of p r) refl up
     where
       by_init : (o : Option RegionInit) → init_of p r ≡ o → is_up_to p x o ≡ true → (0x120000000 ≤ address_of l (target.Ptr r x)) × (address_of l (target.Ptr r x) ≤ 0x144000000)
@@ -116,7 +116,7 @@ module _ (p : ProgramView) (g : GraphView) (l : LayoutView) (prog : IsProgram p)
   value_fits (Gp o) w e = tt
   value_fits (Half q) w e = tt
 
-  fits : AllFits p g l
+  pub fits : AllFits p g l
   fits = record {
     slots =
         λ k j t u e f.

@@ -11,3 +11,12 @@ pub mod Sentences
 pub mod Linked
 pub mod Fitting
 pub mod Rows
+pub mod Walks
+pub mod Sound
+pub mod UsesOfHighs
+pub mod Slotted
+pub mod Fitted
+pub mod Answered
+pub mod TextWalks
+pub mod MapWalks
+pub mod Carried

@@ -7,4 +7,5 @@ pub mod Runs
 pub mod Headline
 pub mod Fitting
 pub mod Written
+pub mod Encoded
 pub mod Rows

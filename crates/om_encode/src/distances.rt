@@ -1,6 +1,5 @@
 // Distances between addresses, and their parts.
-ghost use Rattle.std.specs.Prelude.{◌≡◌, ◌<◌, ◌≤◌, ◌^◌, ℤ, pos, ◌-ℤ◌, ◌≤ℤ◌, SomeIff, FitsSigned};
-ghost use Rattle.std.specs.Int.{w16};
+ghost use Rattle.std.specs.Prelude.{◌≡◌, ◌<◌, ◌≤◌, ◌^◌, ℤ, pos, ◌-ℤ◌, ◌≤ℤ◌, SomeIff};
 ghost use Rattle.om_isa.specs.Fields.{IsDisp};
 ghost use Rattle.om_encode.specs.Halves.{high_part as high_of};
 ghost use Rattle.om_encode.specs.Fitting.{low_part as low_of};
@@ -22,13 +21,6 @@ pub(crate) fn high_part(distance: i64) -> i64
     ensures { result ≡ high_of distance }
 {
     (distance + 32768).div_euclid(65536)
-}
-
-/// The displacement of a memory instruction, or `None` exactly where the number has more than 16 signed bits.
-pub(crate) fn memory_disp(number: i64) -> Option<i16>
-    ensures { SomeIff result (FitsSigned w16 number) number }
-{
-    i16::try_from(number).ok()
 }
 
 /// The displacement of a branch from one image word to another, or `None` exactly where it is too far.

@@ -3,7 +3,15 @@
 #![tactic(auto)]
 
 mod distances;
+mod highs;
+mod lasts;
 mod laws;
+mod map_walk;
+mod ops;
+mod text_part;
+#[cfg(test)]
+mod text_tests;
+mod text_walk;
 mod words;
 
 pub use laws::{
