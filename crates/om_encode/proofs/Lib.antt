@@ -11,6 +11,14 @@ pub mod Sentences
 pub mod Linked
 pub mod Fitting
 pub mod Rows
+pub mod Readable
+pub mod Targets
+pub mod Valid
+pub mod Laid
+pub mod Overlaid
+pub mod DataHolds
+pub mod Mapped
+pub mod DataIs
 pub mod Walks
 pub mod Sound
 pub mod UsesOfHighs
@@ -20,3 +28,4 @@ pub mod Answered
 pub mod TextWalks
 pub mod MapWalks
 pub mod Carried
+pub mod Joined

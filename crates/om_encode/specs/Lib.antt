@@ -9,3 +9,7 @@ pub mod Fitting
 pub mod Written
 pub mod Encoded
 pub mod Rows
+pub mod Valid
+pub mod DataBytes
+pub mod DataRows
+pub mod Joined

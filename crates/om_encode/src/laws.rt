@@ -3,6 +3,7 @@ ghost use Rattle.om_encode.specs.Runs.{EncodedGraphsRun, TrueMapsRun, LiftedImag
 ghost use Rattle.om_encode.specs.Headline.{CountedGivesHeadline, LockstepGivesHeadline, FollowsAndRuns, LinkedImagesRun};
 ghost use Rattle.om_encode.specs.Fitting.{FitsInEveryLayout};
 ghost use Rattle.om_encode.specs.Rows.{TheImageRuns};
+ghost use Rattle.om_encode.specs.Valid.{TrueMapsAreValid};
 
 /// A valid image that holds a graph of a program, in a layout of any order of words, runs in lockstep with the graph.
 pub fn encoded_graphs_run()
@@ -48,4 +49,9 @@ pub fn fits_in_every_layout()
 /// A worked image meets all that these laws ask for, so that they say something.
 pub fn worked_image_runs()
     ensures { TheImageRuns }
+{}
+
+/// Within the limits of a link an image with a true map breaks no rule of images.
+pub fn true_maps_are_valid()
+    ensures { TrueMapsAreValid }
 {}

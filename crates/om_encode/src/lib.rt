@@ -2,20 +2,29 @@
 //! as its graph does.
 #![tactic(auto)]
 
+mod data_part;
+#[cfg(test)]
+mod data_tests;
 mod distances;
+mod encoding;
+mod filling;
 mod highs;
 mod lasts;
 mod laws;
 mod map_walk;
+mod mapping;
+mod numbering;
 mod ops;
+mod ranges;
 mod text_part;
 #[cfg(test)]
 mod text_tests;
 mod text_walk;
 mod words;
 
+pub use encoding::encode_image;
 pub use laws::{
     counted_gives_headline, encoded_graphs_run, fits_in_every_layout, follows_and_runs,
-    lifted_images_run, linked_images_run, lockstep_gives_headline, true_maps_run,
+    lifted_images_run, linked_images_run, lockstep_gives_headline, true_maps_are_valid, true_maps_run,
     worked_image_runs,
 };
