@@ -10,8 +10,8 @@ ghost use Rattle.om_encode.specs.DataBytes.{data_image, data_bytes as data_bytes
 use crate::filling::{DATA_BASE, data_end, push_regions, push_tables};
 use crate::mapping::{map_objects, map_regions, map_tables};
 use crate::ranges::program_fits;
-use om_image::{MapObj, MapRegion, MapTable};
 use om_graph::Graph;
+use om_image::{MapObj, MapRegion, MapTable};
 use om_io::{Bytes, Listed, NoMemory};
 use om_layout::Layout;
 use om_prog::Program;

@@ -111,7 +111,11 @@ fn push_region(out: &mut Vec<u8>, layout: &Layout, init: &RegionInit) -> Result<
 }
 
 // A region of a program, if it has it.
-fn init_in<'a>(regions: &'a [RegionInit], numbers: &RegionNumbers, r: Region) -> Option<&'a RegionInit>
+fn init_in<'a>(
+    regions: &'a [RegionInit],
+    numbers: &RegionNumbers,
+    r: Region,
+) -> Option<&'a RegionInit>
     requires { HasNumbers regions.now numbers.now }
     ensures { option_copied result ≡ find (λ i. region_eq i.region r) regions.now }
 {

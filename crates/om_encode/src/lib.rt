@@ -25,6 +25,6 @@ mod words;
 pub use encoding::encode_image;
 pub use laws::{
     counted_gives_headline, encoded_graphs_run, fits_in_every_layout, follows_and_runs,
-    lifted_images_run, linked_images_run, lockstep_gives_headline, true_maps_are_valid, true_maps_run,
-    worked_image_runs,
+    lifted_images_run, linked_images_run, lockstep_gives_headline, true_maps_are_valid,
+    true_maps_run, worked_image_runs,
 };

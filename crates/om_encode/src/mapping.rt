@@ -3,7 +3,9 @@ ghost use Rattle.std.specs.Prelude.{◌≡◌, ◌<◌, ◌^◌, length, map, If
 ghost use Rattle.om_encode.specs.Data.{place_in_map as map_place_of, part_of as map_part_of, slot_target as slot_target_of, map_table as map_table_of, map_region as map_region_of};
 ghost use Rattle.om_encode.specs.DataBytes.{map_objects as map_objects_of};
 
-use om_image::{MapObj, MapRegion, MapTable, Place as MapPlace, Region as MapPart, Target as SlotTarget};
+use om_image::{
+    MapObj, MapRegion, MapTable, Place as MapPlace, Region as MapPart, Target as SlotTarget,
+};
 use om_io::{Listed, NoMemory};
 use om_layout::{Layout, Placed, Table};
 use om_prog::Program;
@@ -98,7 +100,11 @@ pub(crate) fn map_regions(alloc: Global, regions: &[Placed]) -> Result<Listed<Ma
 
 /// The objects of a map.
 #[tactic(auto, using(crate::proofs::Mapped::each_snoc))]
-pub(crate) fn map_objects(alloc: Global, program: &Program, layout: &Layout) -> Result<Listed<MapObj>, NoMemory>
+pub(crate) fn map_objects(
+    alloc: Global,
+    program: &Program,
+    layout: &Layout,
+) -> Result<Listed<MapObj>, NoMemory>
     ensures { IfOk result (λ v. v ≡ map_objects_of program.now layout.now) }
 {
     let objects = program.objects();
