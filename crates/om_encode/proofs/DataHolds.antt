@@ -1,8 +1,7 @@
 -- Where the data of an image is what is put at the addresses of a layout, the map is true of it.
 use Rattle.std.proofs.Common.{◌≡◌, ◌⊎◌, inl, inr, ℕ, zero, suc, ◌+◌, ◌-◌, ◌*◌, ◌/◌, ◌%◌, ◌^◌, ◌<◌, ◌≤◌, Bool, true, false, cond, if◌then◌else◌, List, [], ◌∷◌, ◌++◌, length, get_or, Option, Some, None, refl, ap, sym, subst, ◌∙◌, arith, length-append}
-use Rattle.std.specs.Prelude.{map, flat_map, find, All, Contains, IsPermutation, slice_get, slice_index}
+use Rattle.std.specs.Prelude.{map, find, slice_get, slice_index}
 use Rattle.std.specs.Int.{bytes_low_first, byte_at}
-use Rattle.std.proofs.Math.Decide.{dec_le}
 use Rattle.std.proofs.lemmas.List.{get_or_append_left, get_or-append_right}
 use Rattle.std.proofs.lemmas.List.Sorted.{Contains-permutation, IsPermutation-sym}
 use Rattle.byteorder.specs.Endian.{little_bytes}
@@ -10,24 +9,20 @@ use Rattle.om_value.specs.declared.value.Region.{Region}
 use Rattle.om_value.specs.declared.value.Region.TheVariants.{Sec, Common, Stack, Heap}
 use Rattle.om_value.specs.declared.value.Target.{Target}
 use Rattle.om_value.specs.Same.{region_eq}
-use Rattle.om_prog.specs.declared.item.Item.{Item}
 use Rattle.om_prog.specs.declared.region.RegionInit.{RegionInit}
 use Rattle.om_prog.specs.View.{ProgramView, init_of}
 use Rattle.om_prog.specs.Valid.{IsProgram, IsRegionInit, is_given}
 use Rattle.om_graph.specs.View.{GraphView, Has}
 use Rattle.om_graph.proofs.Labels.{has_append, append_left, append_right}
 use Rattle.om_graph.proofs.OfProgram.{of_map, to_map, same_some, index_below}
-use Rattle.om_image.specs.declared.image.Image.{Image}
-use Rattle.om_image.specs.declared.map.MapObj.{MapObj}
 use Rattle.om_lockstep.proofs.Small.{same_region, region_self}
 use Rattle.om_layout.specs.Layout.{LayoutView, TableAt, RegionAt, data_base, is_region, address_or, region_at, address_of}
 use Rattle.om_layout.specs.Order.{round_16, extent_at, extent_of, PlacedTables, PlacedRegions, tables_end, regions_end, IsDataLayout}
-use Rattle.om_encode.specs.Data.{DataIsTrue, InSlot, InRegion, data_byte, region_byte, zero_or, is_zero, given_from, data_given, data_end}
+use Rattle.om_encode.specs.Data.{InSlot, InRegion, region_byte, zero_or, is_zero, given_from, data_given, data_end}
 use Rattle.om_encode.specs.DataBytes.{Piece, with_pieces, slots_bytes, table_piece, table_pieces, pieces_of, region_pieces, content, data_bytes}
-use Rattle.om_encode.proofs.Laid.{Ascends, pieces_end, pieces_length, piece_stands, IsOutside, none_stands, pieces_append, ends_append, ascends_append, past_all}
+use Rattle.om_encode.proofs.Laid.{Ascends, pieces_end, pieces_length, piece_stands, IsOutside, none_stands, pieces_append, ends_append, ascends_append}
 use Rattle.om_encode.proofs.Overlaid.{content_length, content_at, zero_at}
 use Rattle.om_encode.proofs.Valid.{got_map, map_got, some_at, has_at, index_at, contains_at}
-use Rattle.om_encode.proofs.Whole.{all_of}
 
 -- ---- lists
 

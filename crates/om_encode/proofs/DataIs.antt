@@ -1,22 +1,21 @@
 -- An image of which the data is that of a layout, and of which the map has the layout's tables and regions.
-use Rattle.std.proofs.Common.{◌≡◌, ℕ, zero, suc, ◌+◌, ◌-◌, ◌*◌, ◌/◌, ◌%◌, ◌^◌, ◌<◌, ◌≤◌, List, [], ◌∷◌, length, Some, refl, ap, sym, subst, ◌∙◌, arith, slice_index_or}
-use Rattle.std.specs.Prelude.{map, All, slice_get, slice_index, unwrap_or}
-use Rattle.om_fields.specs.Places.{each_from, each}
-use Rattle.om_value.specs.declared.value.Target.{Target}
+use Rattle.std.proofs.Common.{◌≡◌, ℕ, zero, suc, ◌+◌, ◌-◌, ◌*◌, ◌<◌, List, [], ◌∷◌, length, Some, refl, ap, sym, ◌∙◌, arith, slice_index_or}
+use Rattle.std.specs.Prelude.{map, slice_get, slice_index, unwrap_or}
+use Rattle.om_fields.specs.Places.{each_from}
 use Rattle.om_prog.specs.declared.item.Item.{Item}
 use Rattle.om_prog.specs.declared.region.RegionInit.{RegionInit}
-use Rattle.om_prog.specs.View.{ProgramView, word_count, text_of}
+use Rattle.om_prog.specs.View.{ProgramView, word_count}
 use Rattle.om_prog.specs.Valid.{IsProgram}
 use Rattle.om_graph.specs.View.{GraphView}
 use Rattle.om_graph.specs.OfProgram.{IsGraphOf}
 use Rattle.om_graph.proofs.OfProgram.{map_length}
 use Rattle.om_image.specs.declared.image.Image.{Image}
 use Rattle.om_image.specs.declared.map.MapObj.{MapObj}
-use Rattle.om_layout.specs.Layout.{LayoutView, TableAt, data_base, code_at, region_at, gp_of, table_at, address_of}
+use Rattle.om_layout.specs.Layout.{LayoutView, data_base, code_at, region_at, gp_of, table_at}
 use Rattle.om_layout.specs.Order.{tables_end, regions_end, IsLayoutOf}
 use Rattle.om_layout.specs.Limits.{IsWithinLimits}
 use Rattle.om_layout.proofs.Limits.{stays}
-use Rattle.om_encode.specs.Data.{DataIsTrue, HasWidths, data_byte, region_byte, map_table, map_region, data_given, data_end}
+use Rattle.om_encode.specs.Data.{DataIsTrue, HasWidths, data_byte, region_byte, map_table, map_region, data_given}
 use Rattle.om_encode.specs.DataBytes.{map_object, map_objects, data_bytes, HasData}
 use Rattle.om_encode.proofs.DataHolds.{bytes_end, given_end, slot_byte, region_bytes, other_byte}
 use Rattle.om_encode.proofs.Fitting.{fits_in_every_layout}

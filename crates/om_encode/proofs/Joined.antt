@@ -4,7 +4,6 @@ use Rattle.om_prog.specs.Valid.{IsProgram}
 use Rattle.om_graph.specs.View.{GraphView}
 use Rattle.om_graph.specs.Kept.{KeptInBlocks}
 use Rattle.om_graph.specs.OfProgram.{IsGraphOf}
-use Rattle.om_image.specs.declared.image.Image.{Image}
 use Rattle.om_image.specs.Valid.{IsValidImage}
 use Rattle.om_layout.specs.Layout.{LayoutView}
 use Rattle.om_layout.specs.Order.{IsLayoutOf}

@@ -1,7 +1,7 @@
 -- Bytes that are put at addresses in order stand there, with zeros between and none behind.
 use Rattle.std.proofs.Common.{◌≡◌, ℕ, zero, suc, ◌+◌, ◌-◌, ◌<◌, ◌≤◌, List, [], ◌∷◌, ◌++◌, length, get_or, take, drop, inl, inr, refl, ap, sym, subst, ◌∙◌, arith, length-append, length-drop}
 use Rattle.std.proofs.Math.Decide.{dec_le}
-use Rattle.std.proofs.lemmas.List.{get_or_append_left, get_or-append_right, get_or-append-add, get_or-replicate, get_or-take, get_or-drop}
+use Rattle.std.proofs.lemmas.List.{get_or_append_left, get_or-append_right, get_or-take, get_or-drop}
 use Rattle.om_fields.specs.Bytes.{zeros}
 use Rattle.om_graph.specs.View.{Has}
 use Rattle.om_layout.specs.Layout.{data_base}

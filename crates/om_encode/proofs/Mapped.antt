@@ -1,5 +1,5 @@
 -- Lists and maps as the encoder makes them, step by step.
-use Rattle.std.proofs.Common.{◌≡◌, ℕ, zero, suc, ◌+◌, ◌-◌, ◌*◌, ◌/◌, ◌%◌, ◌^◌, ◌<◌, ◌≤◌, Bool, true, false, cond, if◌then◌else◌, ◌==◌, List, [], ◌∷◌, ◌++◌, length, get_or, take, drop, Option, Some, None, refl, ap, sym, subst, ◌∙◌, arith, slice_index_or, append_assoc}
+use Rattle.std.proofs.Common.{◌≡◌, ℕ, suc, ◌+◌, ◌-◌, ◌*◌, ◌/◌, ◌%◌, ◌^◌, ◌<◌, ◌≤◌, Bool, true, false, cond, if◌then◌else◌, ◌==◌, List, [], ◌∷◌, ◌++◌, length, get_or, take, drop, Option, Some, None, refl, ap, sym, subst, ◌∙◌, arith, slice_index_or, append_assoc}
 use Rattle.std.specs.Prelude.{pos, ◌-ℤ◌, find, All, IfSome, FitsSigned, slice_get, option_and_then, unwrap_or}
 use Rattle.std.specs.Int.{w32, cast_unsigned}
 use Rattle.std.proofs.Math.Decide.{dec_le}
@@ -10,7 +10,6 @@ use Rattle.std.proofs.lemmas.List.{drop_more}
 use Rattle.om_fields.specs.Bytes.{Grows, zeros}
 use Rattle.om_fields.specs.Places.{each}
 use Rattle.om_fields.proofs.Each.{each-snoc}
-use Rattle.om_value.specs.declared.value.Place.{Place}
 use Rattle.om_value.specs.declared.value.Region.{Region}
 use Rattle.om_value.specs.Same.{region_eq}
 use Rattle.om_prog.specs.declared.item.Item.{Item}

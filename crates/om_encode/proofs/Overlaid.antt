@@ -1,19 +1,18 @@
 -- Fields over the bytes of their region: each field holds its value, and what lies under none stays.
-use Rattle.std.proofs.Common.{◌≡◌, ℕ, zero, suc, ◌+◌, ◌-◌, ◌<◌, ◌≤◌, Bool, true, false, cond, not, ◌&&◌, nat_le, nat_lt, List, [], ◌∷◌, ◌++◌, length, get_or, Option, Some, None, refl, ap, sym, subst, ◌∙◌, arith, length-append}
+use Rattle.std.proofs.Common.{◌≡◌, ℕ, suc, ◌+◌, ◌-◌, ◌<◌, ◌≤◌, Bool, true, false, cond, ◌&&◌, nat_lt, List, [], ◌∷◌, ◌++◌, length, get_or, Option, Some, None, refl, ap, sym, subst, ◌∙◌, arith, length-append}
 use Rattle.std.specs.Prelude.{find, slice_get, slice_index, All}
 use Rattle.std.proofs.lemmas.Bool.Decides.{nat_tests}
 use Rattle.std.proofs.lemmas.List.{get_or_append_left, get_or-append_right}
 use Rattle.std.proofs.Math.Decide.{dec_le}
 use Rattle.om_fields.specs.Bytes.{zeros}
-use Rattle.om_value.specs.declared.value.Target.{Target}
 use Rattle.om_value.specs.declared.value.Value.{Value}
 use Rattle.om_value.specs.declared.value.Value.TheVariants.{Num, Ptr, Code, Gp, Half, GpOff}
 use Rattle.om_prog.specs.declared.item.Field.{Field}
 use Rattle.om_prog.specs.declared.region.RegionInit.{RegionInit}
-use Rattle.om_prog.specs.View.{ProgramView, init_of, is_word}
+use Rattle.om_prog.specs.View.{ProgramView, is_word}
 use Rattle.om_prog.specs.Script.{covers}
-use Rattle.om_prog.specs.Valid.{AreApart, are_apart, IsField, AreFields, IsRegionInit, width_of, has_region, is_near_target}
-use Rattle.om_lockstep.proofs.Small.{and_true, cond_some}
+use Rattle.om_prog.specs.Valid.{are_apart, IsField, IsRegionInit, width_of, has_region, is_near_target}
+use Rattle.om_lockstep.proofs.Small.{cond_some}
 use Rattle.om_layout.specs.Layout.{LayoutView}
 use Rattle.om_encode.specs.Data.{DistanceFits, value_bytes, field_byte, region_byte}
 use Rattle.om_encode.specs.DataBytes.{overlay, with_fields, content, FillsRegion}

@@ -1,19 +1,18 @@
 -- The image words of a true map are instructions.
-use Rattle.std.proofs.Common.{◌≡◌, ℕ, true, Option, Some, refl, ap}
+use Rattle.std.proofs.Common.{◌≡◌, ℕ, true, Option, ap}
 use Rattle.std.specs.Prelude.{ℤ, is_some}
 use Rattle.om_isa.specs.declared.instr.Instr.{Instr}
 use Rattle.om_isa.specs.declared.instr.Instr.TheVariants.{Mem, Jump, Branch, Alu, Cmov, Misc, Fnop, Halt, Callsys}
 use Rattle.om_isa.specs.Words.{Encodes, instr_of}
 use Rattle.om_isa.proofs.Reading.{complete}
 use Rattle.om_value.specs.declared.value.Place.{Place}
-use Rattle.om_value.specs.declared.value.Target.{Target}
 use Rattle.om_value.specs.declared.value.Target.TheVariants as target
 use Rattle.om_prog.specs.Act.{Act, Plain, Lit, GpHi, GpLo, To, AddrLda, AddrHi, UseLo, UseGp, Wrong, base_of}
 use Rattle.om_prog.specs.View.{ProgramView}
 use Rattle.om_graph.specs.View.{GraphView}
 use Rattle.om_layout.specs.Layout.{LayoutView}
 use Rattle.om_encode.specs.Halves.{from_gp}
-use Rattle.om_encode.specs.Fields.{HasForm, HasLda, HasUse, behind_high}
+use Rattle.om_encode.specs.Fields.{HasForm, HasUse, behind_high}
 
 readable : (word : ℕ) (i : Instr) → Encodes word i → is_some (instr_of word) ≡ true
 readable word i e = ap (λ (o : Option Instr). is_some o) (complete word i e)

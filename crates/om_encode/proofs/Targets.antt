@@ -1,6 +1,6 @@
 -- What the slots of a layout hold are targets of the program, and none is in the stack or the heap.
-use Rattle.std.proofs.Common.{◌≡◌, ◌⊎◌, inl, inr, ℕ, zero, suc, Bool, true, false, cond, ◌&&◌, ◌==◌, List, [], ◌∷◌, Option, Some, None, refl, ap, sym, subst, ◌∙◌}
-use Rattle.std.specs.Prelude.{ℤ, is_some, slice_get, count_by}
+use Rattle.std.proofs.Common.{◌≡◌, ◌⊎◌, inl, inr, ℕ, true, List, [], Option, Some, None, refl, ap, sym, subst, ◌∙◌}
+use Rattle.std.specs.Prelude.{is_some, slice_get}
 use Rattle.om_isa.specs.declared.instr.MemOp.{MemOp}
 use Rattle.om_isa.specs.declared.instr.MemOp.TheVariants.{Lda, Ldah, Ldbu, LdqU, Ldwu, Stw, Stb, StqU, Ldl, Ldq, Stl, Stq}
 use Rattle.om_isa.specs.declared.instr.Instr.{Instr}
@@ -23,7 +23,7 @@ use Rattle.om_graph.specs.View.{GraphView, Has}
 use Rattle.om_graph.specs.Run.{words, table_of, shape_words}
 use Rattle.om_graph.specs.OfProgram.{IsGraphOf, IsForm, as_was, near, number, far, by_gp, by_high, byte, called, direct}
 use Rattle.om_graph.proofs.Labels.{has_in}
-use Rattle.om_graph.proofs.OfProgram.{Within, word_from, shape_word, shape_at, block_shape}
+use Rattle.om_graph.proofs.OfProgram.{word_from, shape_word, shape_at, block_shape}
 use Rattle.om_image.specs.Valid.{IsInMap, IsSlot}
 use Rattle.om_lockstep.proofs.Small.{same_region}
 use Rattle.om_layout.specs.Order.{targets_of, slots_of}

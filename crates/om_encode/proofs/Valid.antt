@@ -1,27 +1,22 @@
 -- An image with a true map, of a graph within the limits of a link, is valid.
-use Rattle.std.proofs.Common.{◌≡◌, ◌⊎◌, inl, inr, if◌then◌else◌, ℕ, zero, suc, ◌+◌, ◌-◌, ◌*◌, ◌/◌, ◌%◌, ◌^◌, ◌<◌, ◌≤◌, max, Bool, true, false, cond, ◌&&◌, ◌==◌, List, [], ◌∷◌, length, Option, Some, None, refl, ap, sym, subst, ◌∙◌, arith, slice_index_or}
-use Rattle.std.specs.Prelude.{ℤ, map, flat_map, find, is_some, All, Contains, IsPermutation, slice_get, slice_index, sum, sum_by, take, min, option_and_then}
+use Rattle.std.proofs.Common.{◌≡◌, ◌⊎◌, inl, inr, if◌then◌else◌, ℕ, zero, suc, ◌+◌, ◌-◌, ◌*◌, ◌/◌, ◌%◌, ◌^◌, ◌<◌, ◌≤◌, max, Bool, true, false, cond, ◌==◌, List, [], ◌∷◌, length, Option, Some, None, refl, ap, sym, subst, ◌∙◌, arith, slice_index_or}
+use Rattle.std.specs.Prelude.{map, find, is_some, All, Contains, slice_get, sum, sum_by, take, min, option_and_then}
 use Rattle.std.proofs.Math.Decide.{dec_le}
 use Rattle.std.proofs.lemmas.Bool.{eqb-true}
 use Rattle.std.proofs.lemmas.Bool.Decides.{nat_tests}
 use Rattle.std.proofs.lemmas.List.Sums.{sum_by-cons}
 use Rattle.std.proofs.lemmas.List.Sorted.{Contains-permutation, length_permutation}
-use Rattle.om_isa.specs.declared.instr.Instr.{Instr}
-use Rattle.om_isa.specs.declared.instr.Instr.TheVariants.{Mem, Jump, Branch, Alu, Cmov, Misc, Fnop, Halt, Callsys}
-use Rattle.om_isa.specs.Words.{Encodes, instr_of}
+use Rattle.om_isa.specs.Words.{instr_of}
 use Rattle.om_value.specs.declared.value.Place.{Place}
 use Rattle.om_value.specs.declared.value.Region.{Region}
-use Rattle.om_value.specs.declared.value.Region.TheVariants.{Sec, Common, Stack, Heap}
 use Rattle.om_value.specs.declared.value.Target.{Target}
-use Rattle.om_value.specs.declared.value.Target.TheVariants as target
-use Rattle.om_value.specs.Same.{place_eq, region_eq}
+use Rattle.om_value.specs.Same.{place_eq}
 use Rattle.om_prog.specs.declared.item.Item.{Item}
-use Rattle.om_prog.specs.declared.region.RegionInit.{RegionInit}
-use Rattle.om_prog.specs.Act.{Act, Plain, Lit, GpHi, GpLo, To, AddrLda, AddrHi, UseLo, UseGp, Wrong, Word}
-use Rattle.om_prog.specs.View.{ProgramView, item_in, item_at, is_word, init_of}
+use Rattle.om_prog.specs.Act.{Word}
+use Rattle.om_prog.specs.View.{ProgramView, item_in, item_at, is_word}
 use Rattle.om_prog.specs.Valid.{IsProgram, is_given}
 use Rattle.om_graph.specs.View.{GraphView, Has, place_lt}
-use Rattle.om_graph.specs.Run.{words, next_word}
+use Rattle.om_graph.specs.Run.{words}
 use Rattle.om_graph.specs.LeftIn.{is_kept}
 use Rattle.om_graph.specs.Kept.{KeptInBlocks, IsInKeptSet, root, IsBlock, IsEnd}
 use Rattle.om_graph.specs.Index.{index_of}
@@ -34,20 +29,18 @@ use Rattle.om_image.specs.declared.map.MapTable.{MapTable}
 use Rattle.om_image.specs.declared.map.MapRegion.{MapRegion}
 use Rattle.om_image.specs.declared.map.MapWord.{MapWord}
 use Rattle.om_image.specs.Rules.{is_entry}
-use Rattle.om_image.specs.Written.{slot_count, map_size}
 use Rattle.om_image.specs.Valid.{IsInMap, IsSlot, IsMap, IsValidImage}
 use Rattle.om_lockstep.proofs.Small.{same_place}
-use Rattle.om_layout.specs.Layout.{LayoutView, TableAt, RegionAt, data_base, position_of, code_at}
-use Rattle.om_layout.specs.Order.{IsPlaceOf, IsLayoutOf, words_before, table_count, slots_of, extent_at, extent_of, tables_end, regions_end}
+use Rattle.om_layout.specs.Layout.{LayoutView, TableAt, RegionAt, position_of}
+use Rattle.om_layout.specs.Order.{IsPlaceOf, IsLayoutOf, words_before, table_count, extent_at, extent_of}
 use Rattle.om_layout.specs.Limits.{IsWithinLimits, StaysInLimits}
 use Rattle.om_layout.specs.Facts.{LaysOut, AreSorted, IsBeforeAll}
 use Rattle.om_layout.proofs.Limits.{stays}
 use Rattle.om_layout.proofs.Natural.{lays_out}
-use Rattle.om_layout.proofs.Placing.{found_has, later_is, most_before}
+use Rattle.om_layout.proofs.Placing.{found_has, later_is}
 use Rattle.om_layout.proofs.Sorted.{AreWordsOf, words_of}
-use Rattle.om_encode.specs.Data.{DataIsTrue, part_of, slot_target, map_table, map_region}
+use Rattle.om_encode.specs.Data.{DataIsTrue, slot_target, map_table, map_region}
 use Rattle.om_encode.specs.Text.{TextIsTrue, map_word}
-use Rattle.om_encode.specs.Fields.{HasForm, HasLda, HasUse, IsTrueWord}
 use Rattle.om_encode.specs.TrueMap.{IsTrueMap}
 use Rattle.om_encode.specs.Valid.{TrueMapsAreValid}
 use Rattle.om_encode.proofs.Behind.{word_behind_label}

@@ -1,12 +1,12 @@
 -- Worked data: a table of two slots, a region that is zero between what is not, a region with fields, and a common behind.
-use Rattle.std.specs.Prelude.{◌≡◌, ℕ, true, false, List, [], ◌∷◌, length, map, refl}
+use Rattle.std.specs.Prelude.{◌≡◌, true, false, [], ◌∷◌, refl}
 use Rattle.om_value.specs.declared.value.Place.{Place}
 use Rattle.om_value.specs.declared.value.Region.TheVariants.{Sec, Common}
 use Rattle.om_value.specs.declared.value.Target.TheVariants as target
 use Rattle.om_value.specs.declared.value.Value.TheVariants as value
 use Rattle.om_prog.specs.View.{ProgramView}
 use Rattle.om_layout.specs.Layout.{LayoutView}
-use Rattle.om_encode.specs.Data.{region_byte, data_given, data_end}
+use Rattle.om_encode.specs.Data.{data_given, data_end}
 use Rattle.om_encode.specs.DataBytes.{overlay, data_bytes}
 
 abbrev pub entry_place : Place

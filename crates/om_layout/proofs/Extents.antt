@@ -1,12 +1,11 @@
 -- Sorted extents are in order.
-use Rattle.std.proofs.Common.{◌≡◌, ◌⊎◌, inl, inr, ℕ, zero, suc, ◌+◌, ◌*◌, ◌^◌, ◌<◌, ◌≤◌, Bool, true, false, cond, not, ◌&&◌, ◌==◌, nat_lt, List, [], ◌∷◌, length, Some, None, refl, ap, sym, subst, ◌∙◌, arith, lit<}
-use Rattle.std.specs.Prelude.{map, sum_by, slice_get, slice_index_or, IsPermutation, IsSorted, All, find}
+use Rattle.std.proofs.Common.{◌≡◌, ◌⊎◌, inl, inr, ℕ, suc, ◌+◌, ◌*◌, ◌^◌, ◌<◌, ◌≤◌, Bool, true, false, cond, ◌&&◌, ◌==◌, nat_lt, List, [], ◌∷◌, Some, refl, ap, sym, subst, arith}
+use Rattle.std.specs.Prelude.{map, sum_by, slice_get, slice_index_or, IsPermutation, IsSorted, All}
 use Rattle.std.specs.declared.cmp.Ordering.{Ordering}
 use Rattle.std.specs.declared.cmp.Ordering.TheVariants.{Less, Equal, Greater}
 use Rattle.std.specs.Ordering.{is_lt, nat_cmp, ordering_then}
 use Rattle.std.proofs.lemmas.Bool.{eqb-true, ltb-true, ltb-false}
 use Rattle.std.proofs.lemmas.Bool.Decides.{nat_tests}
-use Rattle.std.proofs.lemmas.List.Elements.{All-head, All-tail}
 use Rattle.std.proofs.lemmas.List.Sums.{sum_by-cons}
 use Rattle.std.proofs.lemmas.List.Sorted.{sum_by-IsPermutation, IsPermutation-map, IsPermutation-sym}
 use Rattle.om_value.specs.declared.value.Region.{Region}
@@ -18,7 +17,6 @@ use Rattle.om_prog.specs.Valid.{AreOnce}
 use Rattle.om_prog.proofs.Found.{same_region}
 use Rattle.om_layout.specs.contracts.sorting.ExtentOrd.TheImpl as extents
 use Rattle.om_layout.specs.declared.sorting.Extent.{Extent}
-use Rattle.om_layout.specs.Layout.{RegionAt, is_region}
 use Rattle.om_layout.specs.Order.{region_rank, comes_before, extent_of, InOrder}
 use Rattle.om_layout.specs.Placing.{Fits, StandOnce, extent_pair, unplaced, count_of_region}
 use Rattle.om_layout.proofs.Slots.{region_self}

@@ -1,10 +1,9 @@
 -- Loads noted one by one give each table its slots.
-use Rattle.std.proofs.Common.{◌≡◌, ◌≢◌, inl, inr, ℕ, zero, suc, ◌<◌, ◌≤◌, max, Bool, true, false, cond, ◌==◌, nat_lt, List, [], ◌∷◌, ◌++◌, ◌+◌, length, take, replicate, Some, refl, ap, sym, subst, ◌∙◌, arith}
-use Rattle.std.specs.Prelude.{map, flat_map, fold, slice_get, slice_set, slice_index_or}
-use Rattle.std.proofs.lemmas.Bool.{eqb-true, ltb-true, ltb-false}
+use Rattle.std.proofs.Common.{◌≡◌, inl, inr, ℕ, zero, suc, ◌<◌, ◌≤◌, max, Bool, true, false, cond, ◌==◌, List, [], ◌∷◌, ◌++◌, ◌+◌, length, take, replicate, refl, ap, sym, ◌∙◌, arith}
+use Rattle.std.specs.Prelude.{map, flat_map, fold, slice_index_or}
+use Rattle.std.proofs.lemmas.Bool.{eqb-true}
 use Rattle.std.proofs.lemmas.Bool.Decides.{nat_tests}
-use Rattle.std.proofs.lemmas.List.{take_more, get_or_default, length-set, get_or-set_same, get_or-set_other, set_past}
-use Rattle.std.proofs.lemmas.Option.{slice_get-get_or}
+use Rattle.std.proofs.lemmas.List.{take_more, get_or_default, length-set, get_or-set_same, get_or-set_other}
 use Rattle.om_value.specs.declared.value.Target.{Target}
 use Rattle.om_prog.specs.declared.item.Item.{Item}
 use Rattle.om_prog.specs.Act.{Word}

@@ -1,9 +1,8 @@
 -- The parts of a layout, put together.
-use Rattle.std.proofs.Common.{◌≡◌, ◌⊎◌, inl, inr, ℕ, zero, suc, ◌+◌, ◌*◌, ◌/◌, ◌^◌, ◌<◌, ◌≤◌, List, [], ◌∷◌, ◌++◌, length, replicate, Option, Some, refl, ap, sym, subst, ◌∙◌, arith}
-use Rattle.std.specs.Prelude.{map, flat_map, fold, sum, sum_by, slice_get, slice_index_or, option_map, IsPermutation, All}
-use Rattle.std.proofs.lemmas.List.{get_or_default, get_or_past}
+use Rattle.std.proofs.Common.{◌≡◌, ◌⊎◌, inl, inr, ℕ, zero, suc, ◌+◌, ◌*◌, ◌/◌, ◌^◌, ◌<◌, ◌≤◌, List, [], ◌∷◌, ◌++◌, length, replicate, Some, refl, ap, sym, subst, ◌∙◌, arith}
+use Rattle.std.specs.Prelude.{map, flat_map, fold, sum, sum_by, slice_get, slice_index_or, IsPermutation, All}
+use Rattle.std.proofs.lemmas.List.{get_or_default}
 use Rattle.std.proofs.lemmas.List.Sorted.{sum_by-IsPermutation, length_permutation}
-use Rattle.std.proofs.lemmas.Option.{slice_get-get_or}
 use Rattle.om_value.specs.declared.value.Place.{Place}
 use Rattle.om_value.specs.declared.value.Region.{Region}
 use Rattle.om_value.specs.declared.value.Target.{Target}
@@ -14,16 +13,14 @@ use Rattle.om_prog.specs.Valid.{IsProgram}
 use Rattle.om_graph.specs.View.{GraphView, Has}
 use Rattle.om_graph.specs.Run.{words}
 use Rattle.om_graph.specs.OfProgram.{IsGraphOf}
-use Rattle.om_graph.proofs.Labels.{has_append}
 use Rattle.om_graph.proofs.OfProgram.{map_length}
 use Rattle.om_layout.specs.declared.words.Load.{Load}
-use Rattle.om_layout.specs.declared.words.Words.{Words}
 use Rattle.om_layout.specs.declared.sorting.Extent.{Extent}
-use Rattle.om_layout.specs.Layout.{LayoutView, TableAt, RegionAt, data_base, place_number}
-use Rattle.om_layout.specs.Order.{table_count, act_targets, slots_of, extent_at, extent_of, InOrder, PlacedTables, PlacedRegions, tables_end, place_count, words_before, IsPlaceOf, IsDataLayout, IsLayoutOf}
+use Rattle.om_layout.specs.Layout.{TableAt, RegionAt, data_base, place_number}
+use Rattle.om_layout.specs.Order.{table_count, act_targets, slots_of, extent_at, extent_of, InOrder, PlacedTables, PlacedRegions, tables_end, IsDataLayout, IsLayoutOf}
 use Rattle.om_layout.specs.Limits.{IsWithinLimits}
 use Rattle.om_layout.specs.Found.{HasPlaces}
-use Rattle.om_layout.specs.Walked.{Lists, load_in, word_loads}
+use Rattle.om_layout.specs.Walked.{load_in, word_loads}
 use Rattle.om_layout.specs.Placing.{AreOfObjects, slots_at, load_noted, extent_pair, unplaced, tables_from, tables_stop, regions_from, AreTextWords, HasPositions, AreFirsts}
 use Rattle.om_layout.proofs.Sorted.{words_of}
 use Rattle.om_layout.proofs.Counting.{few_words}

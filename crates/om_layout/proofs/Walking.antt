@@ -1,7 +1,6 @@
 -- A walk over the blocks of a graph lists its words.
-use Rattle.std.proofs.Common.{◌≡◌, ◌⊎◌, inl, inr, ℕ, zero, suc, ◌<◌, Bool, true, false, cond, ◌==◌, List, [], ◌∷◌, ◌++◌, length, Option, Some, None, IfSome, IsTrue, refl, ap, sym, subst, ◌∙◌, arith}
+use Rattle.std.proofs.Common.{◌≡◌, inl, inr, ℕ, suc, ◌<◌, Bool, true, false, cond, ◌==◌, List, [], ◌∷◌, ◌++◌, length, Option, Some, None, IfSome, IsTrue, refl, ap, sym, subst, ◌∙◌, arith}
 use Rattle.std.specs.Prelude.{map, flat_map, find, is_some, option_map, option_and_then}
-use Rattle.std.proofs.lemmas.Bool.{eqb-true}
 use Rattle.std.proofs.lemmas.Bool.Decides.{nat_tests}
 use Rattle.om_isa.specs.declared.instr.Instr.{Instr}
 use Rattle.om_isa.specs.declared.instr.Instr.TheVariants.{Mem, Jump, Branch, Alu, Cmov, Misc, Fnop, Halt, Callsys}
@@ -17,7 +16,6 @@ use Rattle.om_graph.specs.declared.op.Last.TheVariants.{Fall, Off, Br, Cond, Cal
 use Rattle.om_graph.specs.View.{Node, Block, GraphView, Has, ops_of, is_block, is_node, node_in, holds_node, block_of, block_with, op_of, last_of, first_op_of, next_op_of, first_id, id_after, first_block_id, block_id_after, is_live_block, is_live_op}
 use Rattle.om_graph.specs.Held.{IsGraph, Apart, node_ids, block_ids, op_ids}
 use Rattle.om_graph.specs.Run.{words, all_words, block_words, op_word, op_act, use_of, target_at, last_words, cond_act}
-use Rattle.om_layout.specs.declared.words.Load.{Load}
 use Rattle.om_layout.specs.declared.words.Words.{Words}
 use Rattle.om_layout.specs.Order.{act_targets}
 use Rattle.om_layout.specs.Walked.{kind_target, last_place, option_list, IsWordOf, Lists, load_in, word_loads, words_in, words_of_block}

@@ -1,4 +1,4 @@
-use Rattle.std.proofs.Common.{◌≡◌, ℕ, ◌-◌, List, ◌++◌, length, rules, ap, sym, ◌∙◌, arith}
+use Rattle.std.proofs.Common.{◌≡◌, ℕ, ◌-◌, List, ◌++◌, length, rules, ap, ◌∙◌}
 use Rattle.om_fields.specs.Bytes.{zeros}
 use Rattle.om_prog.specs.declared.item.Field.{Field}
 use Rattle.om_encode.specs.DataBytes.{with_fields}

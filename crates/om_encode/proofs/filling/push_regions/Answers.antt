@@ -1,4 +1,4 @@
-use Rattle.std.proofs.Common.{◌≡◌, List, Some, ap, sym, ◌∙◌, arith}
+use Rattle.std.proofs.Common.{◌≡◌, List, ap, sym, ◌∙◌, arith}
 use Rattle.std.specs.Prelude.{find, option_copied}
 use Rattle.om_value.specs.Same.{region_eq}
 use Rattle.om_prog.specs.declared.region.RegionInit.{RegionInit}

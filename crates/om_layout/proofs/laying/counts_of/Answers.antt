@@ -1,7 +1,6 @@
-use Rattle.std.proofs.Common.{◌<◌, ◌≡◌, [], length, ap, ◌∙◌, arith}
-use Rattle.std.specs.Prelude.{slice_index_or, unwrap_or, List}
+use Rattle.std.proofs.Common.{◌<◌, [], length, ap, ◌∙◌, arith}
+use Rattle.std.specs.Prelude.{unwrap_or}
 use Rattle.std.proofs.lemmas.Option.{slice_get-get_or}
-use Rattle.om_prog.specs.declared.item.Item.{Item}
 use Rattle.om_layout.proofs.Noted.{counts_step}
 use Rattle.om_layout.proofs.laying.counts_of.Goals as goal
 

@@ -1,4 +1,4 @@
-use Rattle.std.proofs.Common.{◌≡◌, ◌≤◌, ◌<◌, ◌+◌, ◌*◌, ℕ, suc, refl, Bool, true, false, cond, length, ap, sym, subst, ◌∙◌, arith}
+use Rattle.std.proofs.Common.{◌≡◌, ◌≤◌, ◌+◌, ◌*◌, ℕ, suc, refl, Bool, true, false, cond, length, sym, ◌∙◌, arith}
 use Rattle.om_value.specs.declared.value.Place.{Place}
 use Rattle.om_layout.proofs.Steps.{place, is_at, at_here, at_past, next_step, next_end, position_step, text_placed}
 use Rattle.om_layout.proofs.positions.add_text.Goals.{then-next-places+then-eq, else-next-places, else-next-places-via-then-next-places+else-eq, else-next-places-via-else-next-places}

@@ -1,4 +1,4 @@
-use Rattle.std.proofs.Common.{List, subst, ◌∙◌}
+use Rattle.std.proofs.Common.{List, subst}
 use Rattle.std.specs.Prelude.{All}
 use Rattle.om_layout.specs.declared.sorting.Extent.{Extent}
 use Rattle.om_layout.specs.Placing.{Fits}

@@ -1,4 +1,4 @@
-use Rattle.std.proofs.Common.{◌<◌, [], length, replicate, List, ap, ◌∙◌, arith}
+use Rattle.std.proofs.Common.{[], length, replicate, List, ap, ◌∙◌, arith}
 use Rattle.om_value.specs.declared.value.Target.{Target}
 use Rattle.om_value.specs.declared.value.Target.TheVariants.{Num}
 use Rattle.om_layout.specs.declared.words.Load.{Load}

@@ -1,4 +1,4 @@
-use Rattle.std.proofs.Common.{◌≤◌, arith, length, Bool, true, false, cond, ap, sym, subst, ◌≡◌, ◌∙◌, List, Option, Some, None, ◌++◌, ◌∷◌, []}
+use Rattle.std.proofs.Common.{length, cond, ap, sym, subst, ◌≡◌, ◌∙◌, List, Some, ◌++◌, ◌∷◌, []}
 use Rattle.std.specs.Prelude.{is_some}
 use Rattle.std.specs.BTreeMap.{get}
 use Rattle.std.specs.Ordering.{is_eq}

@@ -1,6 +1,6 @@
-use Rattle.std.proofs.Common.{◌≡◌, ◌<◌, Some, subst, sym, ◌∙◌}
+use Rattle.std.proofs.Common.{◌<◌, Some, subst, sym}
 use Rattle.std.specs.Prelude.{ℕ, Option}
-use Rattle.om_layout.proofs.Walking.{OnOps, ops_left, ops_more, ops_fewer, ops_end}
+use Rattle.om_layout.proofs.Walking.{OnOps, ops_left, ops_more, ops_fewer}
 use Rattle.om_layout.proofs.words.Words.add_block.Goals as goal
 
 on : (c : goal.After-next_op-next) → OnOps c.args.graph.now c.args.b (Some c.in-Some.o) c.args.self.now c.loop-next.self

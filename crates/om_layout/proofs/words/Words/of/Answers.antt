@@ -1,6 +1,6 @@
-use Rattle.std.proofs.Common.{◌≡◌, ◌<◌, Some, subst, sym, ◌∙◌}
+use Rattle.std.proofs.Common.{◌<◌, Some, subst, sym}
 use Rattle.std.specs.Prelude.{ℕ, Option}
-use Rattle.om_layout.proofs.Walking.{OnBlocks, blocks_left, blocks_more, blocks_fewer, blocks_end}
+use Rattle.om_layout.proofs.Walking.{OnBlocks, blocks_left, blocks_more, blocks_fewer}
 use Rattle.om_layout.proofs.words.Words.of.Goals as goal
 
 on : (c : goal.After-next_block-next) → OnBlocks c.args.graph.now (Some c.in-Some.b) c.loop-next.all
