@@ -58,7 +58,7 @@ fn put_bytes(bytes: &mut [u8], at: usize, piece: &[u8])
 }
 
 // The low 32 bits of how far an address lies behind a global pointer.
-fn gp_distance(gp: u64, address: u64) -> u32
+pub(crate) fn gp_distance(gp: u64, address: u64) -> u32
     requires { FitsSigned w32 (pos address -ℤ pos gp) }
     ensures { result ≡ cast_unsigned w32 (pos address -ℤ pos gp) }
 {
