@@ -27,3 +27,6 @@ pub mod SlotReach
 pub mod ProgramLoads
 pub mod ProgramFits
 pub mod ProgramValid
+pub mod Sums
+pub mod ProgramTotals
+pub mod ProgramReach

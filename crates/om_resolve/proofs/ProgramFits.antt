@@ -297,7 +297,7 @@ module _ (objects : List Parts) (sound : (k : ℕ) → k < length objects → Is
       by_given None e n =
           let never : false ≡ true = sym (own_names_none (place_at obj (offset_of s (reloc_at s i))) off (branch_disp (instr_in s off))) ∙ n in
           absurd cc
-      by_given (Some role) e n = let g = given_by objects obj s fine.unshared off role e in names_by i off role g.0 li g.1 k g.2 n
+      by_given (Some role) e n = let g = given_by objects obj s off role e in names_by i off role g.0 li g.1 k g.2 n
 
   -- each high half is named by one word of its text
   one_low : (i k : ℕ) → i < length s.relocs → (reloc_at s i).kind ≡ GpDisp → offset_of s (reloc_at s i) ≡ 4 * k → count_by (is_low_of (place_at obj (4 * k))) (each (item_of objects obj s) (s.size / 4)) ≡ 1
@@ -380,7 +380,7 @@ module _ (objects : List Parts) (sound : (k : ℕ) → k < length objects → Is
     where
       by_given : (o : Option Role) → role_given (roles_in objects obj s) (4 * k) ≡ o → fits (program_of objects) (each (item_of objects obj s) (s.size / 4)) (place_at obj (4 * k)) (unwrap_or o (own_role obj s (4 * k))) instr ≡ true
       by_given None g = own_fits (each (item_of objects obj s) (s.size / 4)) k instr b e g
-      by_given (Some role) g = let h = given_by objects obj s fine.unshared (4 * k) role g in given_fits k h.0 role instr h.1 e h.2
+      by_given (Some role) g = let h = given_by objects obj s (4 * k) role g in given_fits k h.0 role instr h.1 e h.2
 
   -- a word that loads an address loads that of a slot that is reached
   pub item_reached : (lita : Section) → section_of (object_at objects obj) 13 ≡ Some lita → (k : ℕ) (u : Target) → k < s.size / 4 → literal_of (item_of objects obj s k) ≡ Some u → (q : ℕ) × (q < 8192) × (reached_target objects obj lita q ≡ u)
@@ -403,7 +403,7 @@ module _ (objects : List Parts) (sound : (k : ℕ) → k < length objects → Is
 
       by_given : (o : Option Role) → role_given (roles_in objects obj s) (4 * k) ≡ o → target_of_role (unwrap_or o (own_role obj s (4 * k))) ≡ Some u → (q : ℕ) × (q < 8192) × (reached_target objects obj lita q ≡ u)
       by_given None g h = absurd (by_own (branch_disp (instr_in s (4 * k))) h)
-      by_given (Some role) g h = let x = given_by objects obj s fine.unshared (4 * k) role g in by_gives x.0 role x.2 h
+      by_given (Some role) g h = let x = given_by objects obj s (4 * k) role g in by_gives x.0 role x.2 h
 
   -- a word loads no address where there is no address table
   pub item_loads_none : section_of (object_at objects obj) 13 ≡ None → (k : ℕ) (u : Target) → literal_of (item_of objects obj s k) ≡ Some u → ⊥
@@ -425,4 +425,4 @@ module _ (objects : List Parts) (sound : (k : ℕ) → k < length objects → Is
 
       by_given : (o : Option Role) → role_given (roles_in objects obj s) (4 * k) ≡ o → target_of_role (unwrap_or o (own_role obj s (4 * k))) ≡ Some u → ⊥
       by_given None g h = by_own (branch_disp (instr_in s (4 * k))) h
-      by_given (Some role) g h = let x = given_by objects obj s fine.unshared (4 * k) role g in by_gives x.0 role x.2 h
+      by_given (Some role) g h = let x = given_by objects obj s (4 * k) role g in by_gives x.0 role x.2 h

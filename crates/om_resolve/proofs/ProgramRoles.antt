@@ -115,6 +115,22 @@ module _ (objects : List Parts) (obj : ℕ) (s : Section) where
   gives_byte i off role (low k o same) = subst (In (field_bytes s (reloc_at s i))) o (low_byte i k)
   gives_byte i off role (branches q k x h o same) = subst (In (field_bytes s (reloc_at s i))) o (first_byte i BrAddr k tt (omega arith))
 
+  -- ---- the role of a word
+
+  pub given_by : (off : ℕ) (role : Role) → role_given (roles_in objects obj s) off ≡ Some role → (i : ℕ) × (i < length s.relocs) × Gives objects obj s i off role
+  unfolding roles_in
+  given_by off role h = by_found (find (λ e. e.0 == off) (roles_in objects obj s)) refl h
+    where
+      by_found : (o : Option (ℕ × Role)) → find (λ e. e.0 == off) (roles_in objects obj s) ≡ o → option_map (λ (e : ℕ × Role). e.1) o ≡ Some role → (i : ℕ) × (i < length s.relocs) × Gives objects obj s i off role
+      by_found None e h = cc
+      by_found (Some x) e h =
+          let f = found_in (λ (e : ℕ × Role). e.0 == off) (roles_in objects obj s) x e in
+          let here : x.0 ≡ off = eqb-true x.0 off f.1 in
+          let same : x.1 ≡ role = cc in
+          let a = in_joined {X = ℕ × Role} (λ k. roles_at objects obj s (reloc_at s k)) (length s.relocs) x f.0 in
+          let g = gives_of a.index x.0 x.1 a.here in
+          (a.index, a.below, subst (λ o. Gives objects obj s a.index o role) here (subst (λ r. Gives objects obj s a.index x.0 r) same g))
+
 -- ---- the two words of a pair have no byte of both
 
 twice : (seen xs ys : List ℕ) (x : ℕ) → repeats seen (xs ++ ys) ≡ false → In xs x → In ys x → ⊥
@@ -172,22 +188,6 @@ module _ (objects : List Parts) (obj : ℕ) (s : Section) (unshared : (i : ℕ) 
       let same = others_apart s unshared i j off li lj (gives_byte objects obj s i off role g) (gives_byte objects obj s j off other h) in
       (same, one_role i off role other li g (subst (λ k. Gives objects obj s k off other) (sym same) h))
 
-  -- ---- the role of a word
-
-  pub given_by : (off : ℕ) (role : Role) → role_given (roles_in objects obj s) off ≡ Some role → (i : ℕ) × (i < length s.relocs) × Gives objects obj s i off role
-  unfolding roles_in
-  given_by off role h = by_found (find (λ e. e.0 == off) (roles_in objects obj s)) refl h
-    where
-      by_found : (o : Option (ℕ × Role)) → find (λ e. e.0 == off) (roles_in objects obj s) ≡ o → option_map (λ (e : ℕ × Role). e.1) o ≡ Some role → (i : ℕ) × (i < length s.relocs) × Gives objects obj s i off role
-      by_found None e h = cc
-      by_found (Some x) e h =
-          let f = found_in (λ (e : ℕ × Role). e.0 == off) (roles_in objects obj s) x e in
-          let here : x.0 ≡ off = eqb-true x.0 off f.1 in
-          let same : x.1 ≡ role = cc in
-          let a = in_joined {X = ℕ × Role} (λ k. roles_at objects obj s (reloc_at s k)) (length s.relocs) x f.0 in
-          let g = gives_of objects obj s a.index x.0 x.1 a.here in
-          (a.index, a.below, subst (λ o. Gives objects obj s a.index o role) here (subst (λ r. Gives objects obj s a.index x.0 r) same g))
-
   -- a word to which a relocation gives a role has it
   pub gives_given : (i off : ℕ) (role : Role) → i < length s.relocs → Gives objects obj s i off role → role_given (roles_in objects obj s) off ≡ Some role
   unfolding roles_in
@@ -196,5 +196,5 @@ module _ (objects : List Parts) (obj : ℕ) (s : Section) (unshared : (i : ℕ) 
       let self : (off == off) ≡ true = grind (arith, nat_tests) in
       let f = something_found (λ (e : ℕ × Role). e.0 == off) (roles_in objects obj s) (off, role) among self in
       let given : role_given (roles_in objects obj s) off ≡ Some f.0.1 = ap (λ (o : Option (ℕ × Role)). option_map (λ (e : ℕ × Role). e.1) o) f.1 in
-      let b = given_by off f.0.1 given in
+      let b = given_by objects obj s off f.0.1 given in
       given ∙ ap (λ r. Some r) (sym (one_giver i b.0 off role f.0.1 li b.1 g b.2).1)

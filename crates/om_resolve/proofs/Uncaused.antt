@@ -43,10 +43,10 @@ all_none o (y ∷ ys) h =
     by_place x e later (inl same) = sym same ∙ e
     by_place x e later (inr i) = later x i
 
-nothing_found : (xs : List (Option Finding)) (x : Option Finding) → first_found xs ≡ None → In xs x → x ≡ None
+pub nothing_found : (xs : List (Option Finding)) (x : Option Finding) → first_found xs ≡ None → In xs x → x ≡ None
 nothing_found xs x h i = (all_none None xs h).1 x i
 
-each_in : {X : Type 0} (f : ℕ → X) (n i : ℕ) → i < n → In (each f n) (f i)
+pub each_in : {X : Type 0} (f : ℕ → X) (n i : ℕ) → i < n → In (each f n) (f i)
 each_in f n i h = got_in (each f n) i (f i) (each_get f n i h)
 
 module _ (objects : List Parts) (uncaused : first_cause objects ≡ None) where

@@ -1,0 +1,4 @@
+pub mod Reach
+pub mod Lifted
+pub mod Images
+pub mod Answered
