@@ -299,6 +299,18 @@ FILES = {
     "LARGEST_HEAP": Object(HEAP + "ldah r16,256(r9)\nlda r0,17(r31)\ncallsys\n" + ends("r0")),
     "CALLS_F": Object("bsr r26,f\n" + ends("r0")),
     "IS_F": Object("lda r0,9(r31)\nret r31,(r26)\n", symbols=[("f", 0, TEXT)], start=False),
+    "TWO_ADDENDS": Object(
+        "lit r1,g\nlit r2,g+8\nstq r1,0(r30)\nstq r2,8(r30)\n" + ends(0) + "g: " + 3 * "bis r31,r31,r31\n" + "ret r31,(r26)\n",
+        symbols=[("g", 28, TEXT)],
+    ),
+    "WRITES_TWICE": Object(writes(8).replace("callsys\n", "callsys\nlda r0,4(r31)\ncallsys\n", 1), [HI]),
+    "KEEPS_GP": Object(
+        "pair r27\nstq r29,0(r30)\nlit r27,f\njsr r26,(r27)\nldq r29,0(r30)\nlit r27,f\njsr r26,(r27)\n" + ends("r0")
+    ),
+    "LOADS_NINE": Object("pair r27\nlit r0,%d\nret r31,(r26)\n" % (2**40 + 9), symbols=[("f", 0, TEXT)], start=False),
+    "CALLS_ACROSS": Object("pair r27\nlit r27,f\njsr r26,(r27)\npair r26\n" + ends("r0")),
+    "SETS_GP": Object("pair r27\nlda r0,9(r31)\nret r31,(r26)\n", symbols=[("f", 0, TEXT)], start=False),
+    "MUCH_DATA": Object(ends(0), [(6, 33554440, b"")]),
     "START_IN_DATA": Object("halt\n", [(3, 8, b"")], symbols=[("__start", 16, DATA)], start=False),
     "CALLS_DATA": Object("bsr r26,f\n" + ends(0), [(3, 8, b"")], symbols=[("f", 16, DATA)]),
 }
@@ -326,19 +338,39 @@ def pieces(file):
     return found
 
 
+def camel(name):
+    return "".join(part.capitalize() for part in name.split("_"))
+
+
 def main():
     lines = [
         "// Object files that the tests read, made by ../objects/generate.py: how many bytes a file has, and those that are not zero.",
         "",
         "/// How many bytes a file has, and the bytes that are not zero, in pieces with their places.",
-        "pub(crate) type File = (usize, &'static [(usize, &'static [u8])]);",
+        "pub(crate) type Contents = (usize, &'static [(usize, &'static [u8])]);",
+        "",
+        "/// A file of the tests.",
+        "#[derive(Clone, Copy)]",
+        "pub(crate) enum File {",
+        "    /// So many zero bytes.",
+        "    Zeros(usize),",
+        *[f"    {camel(name)}," for name in FILES],
+        "}",
+        "",
+        "/// What a file holds.",
+        "pub(crate) fn contents(file: File) -> Contents {",
+        "    match file {",
+        "        File::Zeros(count) => (count, &[]),",
+        *[f"        File::{camel(name)} => {name.lower()}()," for name in FILES],
+        "    }",
+        "}",
     ]
     for name, it in FILES.items():
         file = it.bytes()
-        lines += ["", f"pub(crate) const {name}: File = (", f"    {len(file)},", "    &["]
+        lines += ["", f"fn {name.lower()}() -> Contents {{", "    (", f"        {len(file)},", "        &["]
         for at, piece in pieces(file):
-            lines.append(f'        ({at}, b"{text(piece)}"),')
-        lines += ["    ],", ");"]
+            lines.append(f'            ({at}, b"{text(piece)}"),')
+        lines += ["        ],", "    )", "}"]
     with open(__file__.rsplit("/", 2)[0] + "/src/object_files.rt" if "/" in __file__ else "../src/object_files.rt", "w", encoding="ascii") as out:
         out.write("\n".join(lines) + "\n")
 

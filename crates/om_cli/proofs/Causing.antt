@@ -12,9 +12,9 @@ use Rattle.om_resolve.specs.Causes.{first_cause, Blames}
 use Rattle.om_resolve.specs.Program.{program_of}
 use Rattle.om_resolve.specs.declared.causes.ResolveErr.{ResolveErr}
 use Rattle.om_resolve.specs.declared.causes.ResolveErr.TheVariants as resolve
-use Rattle.om_cli.specs.Causes.{most_bytes}
+use Rattle.om_cli.specs.StoreCalls.{most_bytes}
 use Rattle.om_cli.specs.Loading.{item_at, size_of, AreRead, AreLoaded, IsNoObject, StopsAt}
-use Rattle.om_cli.specs.Programs.{IsRefused, IsFirstRefused, HaveCause, HoldNoCause, HoldsProgram, AreNoProgram}
+use Rattle.om_cli.specs.Programs.{IsRefused, IsFirstRefused, FilesHaveCause, FilesHoldProgram, HoldsProgram, AreNoProgram}
 use Rattle.om_cli.specs.World.{Files}
 use Rattle.om_cli.specs.declared.loading.FileStop.{FileStop}
 use Rattle.om_cli.specs.declared.loading.FileStop.TheVariants.{Missing, TooLong, Rule, ReadFault, NoMemory}
@@ -227,7 +227,7 @@ objects_stop first e (inl same) = inl (ap (λ (x : ResolveErr). Objects x) same)
 objects_stop first e (inr want) = inr want
 
 -- the cause that the files have is answered, but for a failed load or want of memory
-pub cause_told : (names : List (List ℕ)) (cause told : NoProgram) (old new : Files) → IsTrue old.tells → HaveCause names cause old →
+pub cause_told : (names : List (List ℕ)) (cause told : NoProgram) (old new : Files) → IsTrue old.tells → FilesHaveCause names cause old →
     AreNoProgram names told old new → (told ≡ cause) ⊎ IsWanting told
 cause_told names (File r) (File q) old new tells have is = file_stops r q (stops_there names r.place q.place r.stop q.stop old new tells have is)
 cause_told names (File r) (Objects e) old new tells have is = absurd (not_all names r.place r.stop is.objects old tells have is.loaded.loaded)
@@ -238,7 +238,7 @@ cause_told names (Objects first) (Objects e) old new tells have is =
     objects_stop first e (blamed (first_cause have.objects) first e have.first (subst (λ (ps : List Parts). Blames (first_cause ps) e) same is.answer))
 
 -- and there is no program
-pub no_program_there : (names : List (List ℕ)) (cause : NoProgram) (old new : Files) (p : ProgramView) → IsTrue old.tells → HaveCause names cause old →
+pub no_program_there : (names : List (List ℕ)) (cause : NoProgram) (old new : Files) (p : ProgramView) → IsTrue old.tells → FilesHaveCause names cause old →
     HoldsProgram names old new p → ⊥
 no_program_there names (File r) old new p tells have is = not_all names r.place r.stop is.objects old tells have is.loaded.loaded
 no_program_there names (Objects first) old new p tells have is =
@@ -246,7 +246,7 @@ no_program_there names (Objects first) old new p tells have is =
     none-some first (sym (subst (λ (ps : List Parts). first_cause ps ≡ None) same is.uncaused) ∙ have.first)
 
 -- where the files hold a program, only a failed load or want of memory stands in its way
-pub no_cause_told : (names : List (List ℕ)) (objects : List Parts) (told : NoProgram) (old new : Files) → IsTrue old.tells → HoldNoCause names objects old →
+pub no_cause_told : (names : List (List ℕ)) (objects : List Parts) (told : NoProgram) (old new : Files) → IsTrue old.tells → FilesHoldProgram names objects old →
     AreNoProgram names told old new → IsWanting told
 no_cause_told names objects (File q) old new tells have is =
     stops_by_want names have.loaded.contents q.place q.stop old new tells is have.loaded.read (omega (arith, have.loaded.count, is.inside))
@@ -254,7 +254,7 @@ no_cause_told names objects (Objects e) old new tells have is =
     let same = same_objects names objects is.objects old tells have.loaded is.loaded.loaded in
     unblamed (first_cause objects) e have.uncaused (subst (λ (ps : List Parts). Blames (first_cause ps) e) same is.answer)
 
-pub same_program : (names : List (List ℕ)) (objects : List Parts) (old new : Files) (p : ProgramView) → IsTrue old.tells → HoldNoCause names objects old →
+pub same_program : (names : List (List ℕ)) (objects : List Parts) (old new : Files) (p : ProgramView) → IsTrue old.tells → FilesHoldProgram names objects old →
     HoldsProgram names old new p → p ≡ program_of objects
 same_program names objects old new p tells have is =
     is.program ∙ ap (λ (ps : List Parts). program_of ps) (same_objects names objects is.objects old tells have.loaded is.loaded.loaded)

@@ -7,9 +7,9 @@ use Rattle.std.proofs.lemmas.Bool.{cases_lt}
 use Rattle.om_io.specs.Causes.{raised, Rose}
 use Rattle.om_object.specs.File.{IsAccepted, parts_of}
 use Rattle.om_object.specs.declared.parts.Parts.{Parts}
-use Rattle.om_cli.specs.Causes.{most_bytes}
+use Rattle.om_cli.specs.StoreCalls.{most_bytes}
 use Rattle.om_cli.specs.Loading.{item_at, size_of, Loads, AreRead, IsObjectIn, IsNoObject, StopsAt}
-use Rattle.om_cli.specs.RunAnswers.{LoadsOne, NoLoadFailed}
+use Rattle.om_cli.specs.StoreCalls.{LoadsOne, NoLoadFailed}
 use Rattle.om_cli.specs.World.{Files}
 use Rattle.om_cli.specs.declared.loading.Loaded.{Loaded}
 use Rattle.om_cli.specs.declared.loading.FileStop.{FileStop}

@@ -1,7 +1,8 @@
 -- From the runs of the machine to what a command promises of them.
-use Rattle.std.proofs.Common.{◌≡◌, ◌++◌, ◌∙◌, ℕ, suc, Bool, true, false, cond, eqb, List, [], Option, Some, None, refl, sym, ap, subst, append_assoc, append-nil, arith}
+use Rattle.std.proofs.Common.{◌≡◌, ◌≢◌, ◌⊎◌, ◌++◌, ◌∙◌, ℕ, suc, Bool, true, false, cond, eqb, List, [], Option, Some, None, refl, sym, ap, subst, append_assoc, append-nil, arith}
 use Rattle.std.specs.Prelude.{option_map}
 use Rattle.std.proofs.lemmas.Option.{same_Some, none-some}
+use Rattle.om_io.specs.Causes.{Rose}
 use Rattle.om_io.specs.Outside.{IsFrontOf}
 use Rattle.om_isa.specs.SystemCall.{Call, Puts}
 use Rattle.om_image.specs.NumState.{NumState}
@@ -15,9 +16,12 @@ use Rattle.om_machine.specs.Streams.{Tells}
 use Rattle.om_machine.specs.Calls.{IsState}
 use Rattle.om_machine.specs.Steps.{IsAtCall, IsAnswerOf, Arrives, FailsReading, FailsWriting}
 use Rattle.om_machine.specs.declared.machine.Step.{Step}
+use Rattle.om_machine.specs.declared.machine.Step.TheVariants as step
+use Rattle.om_alpha.specs.declared.op.TrapKind.{TrapKind}
 use Rattle.om_machine.proofs.Growing.{later_only}
-use Rattle.om_cli.specs.RunAnswers.{StandsAt, BreaksOff, TakesNext, PutsNext}
-use Rattle.om_cli.specs.World.{Streams}
+use Rattle.om_cli.specs.Faults.{StopsReading, StopsWriting}
+use Rattle.om_cli.specs.RunAnswers.{IsNextCall, StandsAt, input_after, out_after, err_after}
+use Rattle.om_cli.specs.World.{Streams, Faultless, FaultOfInput, FaultOfSink, on_out, on_err}
 
 -- ---- fronts
 
@@ -91,20 +95,33 @@ module _ (i : Image) (steps : ℕ) (old : Streams) (xs : List ℕ) where
 
     -- a read failed
     pub read_failed : FailsReading i steps (num_start i xs) w new.input.told (old.out.told, new.out.told) (old.err.told, new.err.told) →
-        BreaksOff TakesNext i xs steps old new
+        StopsReading (IsNextCall i xs) (input_after i xs) (out_after i xs) (err_after i xs) steps old new
     read_failed f =
         let t = num_run i xs f.taken in
+        let fails = f.fails.fails in
         let grown = later_only i (num_start i xs) f.taken steps (omega (arith, f.before)) in record {
           done = f.taken;
           within = f.before;
-          next = (f.fails.fails.count, f.fails.a1, subst (λ c. IsAtCall i t c f.fails.a1) f.fails.fails.asked f.fails.at);
-          out = λ before b. (t.out, grown.out, ends_told old.out.told new.out.told t.out f.fails.fails.state.out before b);
-          err = λ before b. (t.err, grown.err, ends_told old.err.told new.err.told t.err f.fails.fails.state.err before b);
+          count = fails.count;
+          asked = (f.fails.a1, subst (λ c. IsAtCall i t c f.fails.a1) fails.asked f.fails.at);
+          taken = fails.bytes;
+          left = fails.rest;
+          few = fails.few;
+          split = fails.split;
+          streams = record {
+            input = fails.state.input;
+            out = ends_told old.out.told new.out.told t.out fails.state.out;
+            err = ends_told old.err.told new.err.told t.err fails.state.err;
+          };
+          fronts = record {
+            out = λ before b. (t.out, grown.out, ends_told old.out.told new.out.told t.out fails.state.out before b);
+            err = λ before b. (t.err, grown.err, ends_told old.err.told new.err.told t.err fails.state.err before b);
+          };
         }
 
     -- a put failed: what was written before it, and a front of what it puts
     pub put_failed : FailsWriting i steps (num_start i xs) w new.input.told (old.out.told, new.out.told) (old.err.told, new.err.told) →
-        BreaksOff PutsNext i xs steps old new
+        StopsWriting (IsNextCall i xs) (input_after i xs) (out_after i xs) (err_after i xs) steps old new
     put_failed f =
         let t = num_run i xs f.taken in
         let put = f.fails.fails in
@@ -114,17 +131,58 @@ module _ (i : Image) (steps : ℕ) (old : Streams) (xs : List ℕ) where
         let grown = later_only i (num_start i xs) (suc f.taken) steps (omega (arith, f.before)) in record {
           done = f.taken;
           within = f.before;
-          next = (put.descriptor, put.bytes, f.fails.a1, at_call);
-          out = λ before b. (
-            cond (eqb put.descriptor 1) (t.out ++ put.front) t.out,
-            put_on (eqb put.descriptor 1) t.out put.front put.bytes (num_run i xs steps).out put.is_front
-                (subst (λ (l : List ℕ). IsFrontOf l (num_run i xs steps).out) (ap (λ (x : NumState). x.out) after) grown.out),
-            ends_told old.out.told new.out.told _ put.state.out before b,
-          );
-          err = λ before b. (
-            cond (eqb put.descriptor 1) t.err (t.err ++ put.front),
-            put_off (eqb put.descriptor 1) t.err put.front put.bytes (num_run i xs steps).err put.is_front
-                (subst (λ (l : List ℕ). IsFrontOf l (num_run i xs steps).err) (ap (λ (x : NumState). x.err) after) grown.err),
-            ends_told old.err.told new.err.told _ put.state.err before b,
-          );
+          descriptor = put.descriptor;
+          bytes = put.bytes;
+          asked = (f.fails.a1, at_call);
+          front = put.front;
+          is_front = put.is_front;
+          streams = record {
+            input = put.state.input;
+            out = ends_told old.out.told new.out.told (on_out put.descriptor t.out put.front) put.state.out;
+            err = ends_told old.err.told new.err.told (on_err put.descriptor t.err put.front) put.state.err;
+          };
+          fronts = record {
+            out = λ before b. (
+              on_out put.descriptor t.out put.front,
+              put_on (eqb put.descriptor 1) t.out put.front put.bytes (num_run i xs steps).out put.is_front
+                  (subst (λ (l : List ℕ). IsFrontOf l (num_run i xs steps).out) (ap (λ (x : NumState). x.out) after) grown.out),
+              ends_told old.out.told new.out.told _ put.state.out before b,
+            );
+            err = λ before b. (
+              on_err put.descriptor t.err put.front,
+              put_off (eqb put.descriptor 1) t.err put.front put.bytes (num_run i xs steps).err put.is_front
+                  (subst (λ (l : List ℕ). IsFrontOf l (num_run i xs steps).err) (ap (λ (x : NumState). x.err) after) grown.err),
+              ends_told old.err.told new.err.told _ put.state.err before b,
+            );
+          };
         }
+
+-- a run that came to an end is no fault
+pub went_is_no_fault : (step.Went ≢ step.ReadFault) × (step.Went ≢ step.WriteFault)
+went_is_no_fault = (λ e. let never : ⊥ = cc in never, λ e. let never : ⊥ = cc in never)
+
+pub exit_is_no_fault : (status : ℕ) → (step.Exit status ≢ step.ReadFault) × (step.Exit status ≢ step.WriteFault)
+exit_is_no_fault status = (λ e. let never : ⊥ = cc in never, λ e. let never : ⊥ = cc in never)
+
+pub trap_is_no_fault : (kind : TrapKind) (at : ℕ) → (step.Trap kind at ≢ step.ReadFault) × (step.Trap kind at ≢ step.WriteFault)
+trap_is_no_fault kind at = (λ e. let never : ⊥ = cc in never, λ e. let never : ⊥ = cc in never)
+
+pub read_is_no_write : step.ReadFault ≢ step.WriteFault
+read_is_no_write = λ e. let never : ⊥ = cc in never
+
+pub write_is_no_read : step.WriteFault ≢ step.ReadFault
+write_is_no_read = λ e. let never : ⊥ = cc in never
+
+-- no stream failed
+pub faultless : (old new : Streams) → new.input.faults ≡ old.input.faults → (new.out.faults ≡ old.out.faults) × (new.err.faults ≡ old.err.faults) →
+    Faultless old new
+faultless old new input sinks = record { input = input; out = sinks.0; err = sinks.1 }
+
+-- only the input failed, or only a sink
+pub input_fault : (old new : Streams) → Rose old.input.faults new.input.faults → (new.out.faults ≡ old.out.faults) × (new.err.faults ≡ old.err.faults) →
+    FaultOfInput old new
+input_fault old new input sinks = record { input = input; out = sinks.0; err = sinks.1 }
+
+pub sink_fault : (old new : Streams) → new.input.faults ≡ old.input.faults →
+    Rose old.out.faults new.out.faults ⊎ Rose old.err.faults new.err.faults → FaultOfSink old new
+sink_fault old new input sinks = record { input = input; sinks = sinks }

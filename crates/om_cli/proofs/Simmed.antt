@@ -1,5 +1,5 @@
 -- From the runs of the machine without addresses to what a command promises of them.
-use Rattle.std.proofs.Common.{◌≡◌, ◌≢◌, ◌≤◌, ◌++◌, ◌∙◌, ℕ, zero, suc, cond, eqb, List, [], Option, Some, None, refl, sym, ap, subst, append-nil, arith}
+use Rattle.std.proofs.Common.{◌≡◌, ◌≢◌, ◌≤◌, ◌++◌, ◌∙◌, ℕ, zero, suc, eqb, List, [], Option, Some, None, refl, sym, ap, subst, append-nil, arith}
 use Rattle.std.specs.Prelude.{option_map}
 use Rattle.std.proofs.lemmas.Option.{same_Some, none-some}
 use Rattle.om_alpha.specs.declared.op.TrapKind.{TrapKind}
@@ -21,8 +21,9 @@ use Rattle.om_symrun.specs.Writing.{OnlyWrites}
 use Rattle.om_symrun.specs.declared.machine.SymStep.{SymStep}
 use Rattle.om_symrun.specs.declared.machine.SymStep.TheVariants as step
 use Rattle.om_symrun.proofs.Growing.{later_only}
-use Rattle.om_cli.specs.SimAnswers.{SimFaultless, SimStandsAt, SimTookFronts, SimBreaksOff, SimTakesNext, SimPutsNext}
-use Rattle.om_cli.specs.World.{Streams}
+use Rattle.om_cli.specs.Faults.{StopsReading, StopsWriting}
+use Rattle.om_cli.specs.SimAnswers.{IsNextCall, SimStandsAt, StopsForMemory, input_after, out_after, err_after}
+use Rattle.om_cli.specs.World.{Streams, Faultless, on_out, on_err}
 use Rattle.om_cli.proofs.Ran.{put_on, put_off, ends_told, starts_told}
 
 -- ---- runs by steps from the start
@@ -87,30 +88,50 @@ module _ (p : ProgramView) (steps : ℕ) (old : Streams) (xs : List ℕ) where
 
     -- memory ran out at a step
     pub sim_wanted : (q : ProgramView) → q ≡ p → WantsMemory (program_script q) steps (sym_start (program_script p) xs) w new.input.told (old.out.told, new.out.told) (old.err.told, new.err.told) →
-        SimTookFronts (program_run p xs steps) old new
+        StopsForMemory p xs steps old new
     sim_wanted q is from =
         let f = subst (λ (x : ProgramView). WantsMemory (program_script x) steps (sym_start (program_script p) xs) w new.input.told (old.out.told, new.out.told) (old.err.told, new.err.told)) is from in
         let t = sym_run script xs f.taken in
         let a = subst (λ s. Arrives step.NoMemory s w new.input.told (old.out.told, new.out.told) (old.err.told, new.err.told)) (runs_are script xs f.taken) f.arrives in
         let g = grown script xs f.taken steps (omega (arith, f.before)) in record {
-          out = λ before b. (t.out, g.out, ends_told old.out.told new.out.told t.out a.state.out before b);
-          err = λ before b. (t.err, g.err, ends_told old.err.told new.err.told t.err a.state.err before b);
+          done = f.taken;
+          within = omega (arith, f.before);
+          streams = record {
+            input = a.state.input;
+            out = ends_told old.out.told new.out.told t.out a.state.out;
+            err = ends_told old.err.told new.err.told t.err a.state.err;
+          };
+          fronts = record {
+            out = λ before b. (t.out, g.out, ends_told old.out.told new.out.told t.out a.state.out before b);
+            err = λ before b. (t.err, g.err, ends_told old.err.told new.err.told t.err a.state.err before b);
+          };
         }
 
     -- a read failed
     pub sim_read_failed : (q : ProgramView) → q ≡ p → FailsReading (program_script q) steps (sym_start (program_script p) xs) w new.input.told (old.out.told, new.out.told) (old.err.told, new.err.told) →
-        SimBreaksOff SimTakesNext p xs steps old new
+        StopsReading (IsNextCall p xs) (input_after p xs) (out_after p xs) (err_after p xs) steps old new
     sim_read_failed q is from =
         let f = subst (λ (x : ProgramView). FailsReading (program_script x) steps (sym_start (program_script p) xs) w new.input.told (old.out.told, new.out.told) (old.err.told, new.err.told)) is from in
         let t = sym_run script xs f.taken in
+        let fails = f.fails.fails in
         let here : sym_steps script (sym_start script xs) f.taken ≡ t = runs_are script xs f.taken in
         let at = subst (λ s. IsAtCall script s f.fails.call f.fails.a1) here f.fails.at in
-        let told_out = subst (λ (s : SymState). Tells (old.out.told, new.out.told) s.out) here f.fails.fails.state.out in
-        let told_err = subst (λ (s : SymState). Tells (old.err.told, new.err.told) s.err) here f.fails.fails.state.err in
+        let told_out = subst (λ (s : SymState). Tells (old.out.told, new.out.told) s.out) here fails.state.out in
+        let told_err = subst (λ (s : SymState). Tells (old.err.told, new.err.told) s.err) here fails.state.err in
         let g = grown script xs f.taken steps (omega (arith, f.before)) in record {
           done = f.taken;
           within = f.before;
-          next = (f.fails.fails.count, f.fails.a1, subst (λ c. IsAtCall script t c f.fails.a1) f.fails.fails.asked at);
+          count = fails.count;
+          asked = (f.fails.a1, subst (λ c. IsAtCall script t c f.fails.a1) fails.asked at);
+          taken = fails.bytes;
+          left = fails.rest;
+          few = fails.few;
+          split = subst (λ (s : SymState). s.input ≡ fails.bytes ++ fails.rest) here fails.split;
+          streams = record {
+            input = fails.state.input;
+            out = ends_told old.out.told new.out.told t.out told_out;
+            err = ends_told old.err.told new.err.told t.err told_err;
+          };
           fronts = record {
             out = λ before b. (t.out, g.out, ends_told old.out.told new.out.told t.out told_out before b);
             err = λ before b. (t.err, g.err, ends_told old.err.told new.err.told t.err told_err before b);
@@ -119,7 +140,7 @@ module _ (p : ProgramView) (steps : ℕ) (old : Streams) (xs : List ℕ) where
 
     -- a put failed: what was written before it, and a front of what it puts
     pub sim_put_failed : (q : ProgramView) → q ≡ p → FailsWriting (program_script q) steps (sym_start (program_script p) xs) w new.input.told (old.out.told, new.out.told) (old.err.told, new.err.told) →
-        SimBreaksOff SimPutsNext p xs steps old new
+        StopsWriting (IsNextCall p xs) (input_after p xs) (out_after p xs) (err_after p xs) steps old new
     sim_put_failed q is from =
         let f = subst (λ (x : ProgramView). FailsWriting (program_script x) steps (sym_start (program_script p) xs) w new.input.told (old.out.told, new.out.told) (old.err.told, new.err.told)) is from in
         let t = sym_run script xs f.taken in
@@ -127,26 +148,36 @@ module _ (p : ProgramView) (steps : ℕ) (old : Streams) (xs : List ℕ) where
         let here : sym_steps script (sym_start script xs) f.taken ≡ t = runs_are script xs f.taken in
         let at_call : IsAtCall script t (Puts put.descriptor put.bytes) f.fails.a1 =
         subst (λ c. IsAtCall script t c f.fails.a1) put.asked (subst (λ s. IsAtCall script s f.fails.call f.fails.a1) here f.fails.at) in
+        let told_input = subst (λ (s : SymState). new.input.told ≡ Some s.input) here put.state.input in
         let told_out =
-        subst (λ (s : SymState). Tells (old.out.told, new.out.told) (cond (eqb put.descriptor 1) (s.out ++ put.front) s.out)) here put.state.out in
+        subst (λ (s : SymState). Tells (old.out.told, new.out.told) (on_out put.descriptor s.out put.front)) here put.state.out in
         let told_err =
-        subst (λ (s : SymState). Tells (old.err.told, new.err.told) (cond (eqb put.descriptor 1) s.err (s.err ++ put.front))) here put.state.err in
+        subst (λ (s : SymState). Tells (old.err.told, new.err.told) (on_err put.descriptor s.err put.front)) here put.state.err in
         let stepped = step_at script t (Puts put.descriptor put.bytes) f.fails.a1 at_call in
         let after : sym_run script xs (suc f.taken) ≡ calls t stepped.0 (Puts put.descriptor put.bytes) f.fails.a1 =
         one_more_step script xs f.taken ∙ stepped.1 in
         let g = grown script xs (suc f.taken) steps (omega (arith, f.before)) in record {
           done = f.taken;
           within = f.before;
-          next = (put.descriptor, put.bytes, f.fails.a1, at_call);
+          descriptor = put.descriptor;
+          bytes = put.bytes;
+          asked = (f.fails.a1, at_call);
+          front = put.front;
+          is_front = put.is_front;
+          streams = record {
+            input = told_input;
+            out = ends_told old.out.told new.out.told (on_out put.descriptor t.out put.front) told_out;
+            err = ends_told old.err.told new.err.told (on_err put.descriptor t.err put.front) told_err;
+          };
           fronts = record {
             out = λ before b. (
-              cond (eqb put.descriptor 1) (t.out ++ put.front) t.out,
+              on_out put.descriptor t.out put.front,
               put_on (eqb put.descriptor 1) t.out put.front put.bytes (program_run p xs steps).out put.is_front
                   (subst (λ (l : List ℕ). IsFrontOf l (program_run p xs steps).out) (ap (λ (x : SymState). x.out) after) g.out),
               ends_told old.out.told new.out.told _ told_out before b,
             );
             err = λ before b. (
-              cond (eqb put.descriptor 1) t.err (t.err ++ put.front),
+              on_err put.descriptor t.err put.front,
               put_off (eqb put.descriptor 1) t.err put.front put.bytes (program_run p xs steps).err put.is_front
                   (subst (λ (l : List ℕ). IsFrontOf l (program_run p xs steps).err) (ap (λ (x : SymState). x.err) after) g.err),
               ends_told old.err.told new.err.told _ told_err before b,
@@ -170,17 +201,28 @@ observes_is_no_fault at = (λ e. let never : ⊥ = cc in never, λ e. let never 
 pub want_is_no_fault : (step.NoMemory ≢ step.ReadFault) × (step.NoMemory ≢ step.WriteFault)
 want_is_no_fault = (λ e. let never : ⊥ = cc in never, λ e. let never : ⊥ = cc in never)
 
--- no stream failed
-pub faultless : (old new : Streams) → new.input.faults ≡ old.input.faults → (new.out.faults ≡ old.out.faults) × (new.err.faults ≡ old.err.faults) →
-    SimFaultless old new
-faultless old new input sinks = record { input = input; out = sinks.0; err = sinks.1 }
+pub read_is_no_write : step.ReadFault ≢ step.WriteFault
+read_is_no_write = λ e. let never : ⊥ = cc in never
 
-pub no_faults : (old : Streams) → SimFaultless old old
+pub write_is_no_read : step.WriteFault ≢ step.ReadFault
+write_is_no_read = λ e. let never : ⊥ = cc in never
+
+-- no stream failed
+pub no_faults : (old : Streams) → Faultless old old
 no_faults old = record { input = refl; out = refl; err = refl }
 
 -- nothing was written
-pub none_taken : (p : ProgramView) (steps : ℕ) (old : Streams) (xs : List ℕ) → SimTookFronts (program_run p xs steps) old old
-none_taken p steps old xs = record {
-  out = λ before b. ([], ((program_run p xs steps).out, refl), b ∙ ap (λ (l : List ℕ). Some l) (sym (append-nil before)));
-  err = λ before b. ([], ((program_run p xs steps).err, refl), b ∙ ap (λ (l : List ℕ). Some l) (sym (append-nil before)));
+nothing_more : (told : Option (List ℕ)) (before : List ℕ) → told ≡ Some before → told ≡ Some (before ++ [])
+nothing_more told before b = b ∙ ap (λ (l : List ℕ). Some l) (sym (append-nil before))
+
+pub none_taken : (p : ProgramView) (steps : ℕ) (old : Streams) (xs : List ℕ) → old.input.told ≡ Some xs → StopsForMemory p xs steps old old
+unfolding sym_run sym_start
+none_taken p steps old xs told = record {
+  done = 0;
+  within = omega arith;
+  streams = record { input = told; out = nothing_more old.out.told; err = nothing_more old.err.told };
+  fronts = record {
+    out = λ before b. ([], ((program_run p xs steps).out, refl), nothing_more old.out.told before b);
+    err = λ before b. ([], ((program_run p xs steps).err, refl), nothing_more old.err.told before b);
+  };
 }

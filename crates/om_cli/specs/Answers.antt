@@ -1,9 +1,11 @@
 -- What each sentence is answered with.
-use Rattle.std.specs.Prelude.{◌⊎◌, ℕ, List, [], ◌∷◌, Option, Some, None, codes}
+use Rattle.std.specs.Prelude.{◌⊎◌, ℕ, List, Option, Some, None, codes}
 use Rattle.om_alpha.specs.declared.op.Level.TheVariants.{Plain}
-use Rattle.om_words.specs.Meaning.{Meaning, Link, Run, Sim, meaning}
+use Rattle.om_words.specs.Meaning.{Meaning, Link, Exec, Run, Sim, Listing, meaning}
 use Rattle.om_words.specs.Sentences.{wrong_place}
+use Rattle.om_cli.specs.ExecAnswers.{ExecAnswers}
 use Rattle.om_cli.specs.LinkAnswers.{LinkAnswers}
+use Rattle.om_cli.specs.ListAnswers.{ListAnswers}
 use Rattle.om_cli.specs.RunAnswers.{RunAnswers}
 use Rattle.om_cli.specs.SimAnswers.{SimAnswers}
 use Rattle.om_cli.specs.Telling.{IsSaid, usage_line}
@@ -14,14 +16,16 @@ pub record OnlySays (code : ℕ) (line : List ℕ) (old new : World) (status : �
   pub said : IsSaid code line status old.err new.err
   pub untouched : IsUntouched old new
 
--- a command that does not exist yet
+-- a command, or a level of it, that is not built yet
 abbrev pub NotYet : World → World → ℕ → Type 0
 NotYet old new status = OnlySays 2 (codes "not yet\n") old new status
 
 abbrev pub MeaningAnswers : Meaning → World → World → ℕ → Type 0
-MeaningAnswers (Link Plain out (file ∷ [])) old new status = LinkAnswers out file old new status
+MeaningAnswers (Link Plain out files) old new status = LinkAnswers out files old new status
+MeaningAnswers (Exec Plain steps files) old new status = ExecAnswers steps files old new status
 MeaningAnswers (Run steps image) old new status = RunAnswers steps image old new status
 MeaningAnswers (Sim steps files) old new status = SimAnswers steps files old new status
+MeaningAnswers (Listing image) old new status = ListAnswers image old new status
 MeaningAnswers _ old new status = NotYet old new status
 
 -- words that ask for something: it is done, or memory runs out before anything is

@@ -1,56 +1,78 @@
--- What `link -O0 -o OUT FILE` promises.
-use Rattle.std.specs.Prelude.{◌≡◌, ◌≢◌, ◌≤◌, ◌⊎◌, ℕ, List, length, Some, IsTrue, codes}
-use Rattle.om_io.specs.Causes.{Rose, raised}
-use Rattle.om_object.specs.Thin.{IsThin}
-use Rattle.om_cli.specs.Causes.{most_bytes, Refuses, status_of, line_of, refusal_line, IsCause}
-use Rattle.om_cli.specs.Linking.{IsLinked, IsUnsaved, AsksSave}
-use Rattle.om_cli.specs.Telling.{IsSaid, SaysLine}
+-- What `link -O0 -o OUT FILE ..` promises.
+use Rattle.std.specs.Prelude.{◌≡◌, ◌⊎◌, ℕ, List, Some, IsTrue}
+use Rattle.om_io.specs.Causes.{Rose}
+use Rattle.om_image.specs.Answers.{IsRead}
+use Rattle.om_image.specs.declared.image.Image.{Image}
+use Rattle.om_link.specs.declared.linking.Linked.{Linked}
+use Rattle.om_object.specs.declared.parts.Parts.{Parts}
+use Rattle.om_cli.specs.Links.{HoldsLink, IsImageOf}
+use Rattle.om_cli.specs.LinkStops.{link_status, link_line}
+use Rattle.om_cli.specs.NoPrograms.{no_program_status, no_program_line}
+use Rattle.om_cli.specs.Programs.{AreNoProgram, FilesHaveCause, FilesHoldProgram}
+use Rattle.om_cli.specs.StoreCalls.{Saves, FailsSave}
+use Rattle.om_cli.specs.Telling.{IsSaid, IsSaidOrWanting}
 use Rattle.om_cli.specs.World.{Files, World}
-use Rattle.om_cli.specs.declared.stopping.Refusal.{Refusal}
-use Rattle.om_cli.specs.declared.stopping.Stop.{Stop}
+use Rattle.om_cli.specs.declared.link_stop.LinkStop.{LinkStop}
+use Rattle.om_cli.specs.declared.link_stop.LinkStop.TheVariants.{NoProgram, WriteFault}
+use Rattle.om_cli.specs.declared.no_program.NoProgram.{NoProgram as NoProgramCause}
 
--- no save was asked for, and each file is as before
-abbrev pub SavesNothing : Files → Files → Type 0
-SavesNothing old new = IsUnsaved old.file old.saves_asked old.failed_saves new.file new.saves_asked new.failed_saves
+-- the files held objects with an image, which was saved under OUT, once all were loaded
+pub record HasLinked (out : List ℕ) (names : List (List ℕ)) (old new : Files) : Type 0 where
+  pub linked : Linked
+  pub loaded : Files
+  pub holds : HoldsLink names old loaded linked
+  pub saves : Saves out linked.bytes loaded new
 
--- one save was asked for, of the file of this name
-abbrev pub SavesOne : List ℕ → Files → Files → Type 0
-SavesOne out old new = AsksSave out old.file old.saves_asked new.file new.saves_asked
+-- the files held objects with an image, whose save failed
+pub record HasNotSaved (out : List ℕ) (names : List (List ℕ)) (old new : Files) : Type 0 where
+  pub linked : Linked
+  pub loaded : Files
+  pub holds : HoldsLink names old loaded linked
+  pub fails : FailsSave out loaded new
 
-pub record LinkAnswers (out file : List ℕ) (old new : World) (status : ℕ) : Type 0 where
-  -- done: FILE held a program, and OUT holds an image that runs as it does
-  pub linked : status ≡ 0 → IsTrue old.files.tells → IsLinked (old.files.file file) (new.files.file out)
-  pub silent : status ≡ 0 → new.err ≡ old.err
-  -- where nothing is wrong and nothing fails, it is done, unless memory runs out
-  pub complete : (bytes text : List ℕ) → IsTrue old.files.tells → old.files.file file ≡ Some bytes → length bytes ≤ most_bytes →
-      IsThin bytes text → (Rose old.files.failed_loads new.files.failed_loads → ⊥) →
-      (Rose old.files.failed_saves new.files.failed_saves → ⊥) → (Rose old.err.faults new.err.faults → ⊥) →
+-- why nothing was linked: the files are no program, and no save was asked for; or the one save failed
+abbrev pub IsLinkCause : LinkStop → List ℕ → List (List ℕ) → Files → Files → Type 0
+IsLinkCause (NoProgram cause) out names old new = AreNoProgram names cause old new
+IsLinkCause WriteFault out names old new = HasNotSaved out names old new
+
+-- it is done, and nothing is said
+pub record IsDone (out : List ℕ) (names : List (List ℕ)) (old new : World) (status : ℕ) : Type 0 where
+  pub status_is : status ≡ 0
+  pub silent : new.err ≡ old.err
+  pub has : HasLinked out names old.files new.files
+
+-- it is not done, and the cause is said
+pub record IsStopped (out : List ℕ) (names : List (List ℕ)) (old new : World) (status : ℕ) : Type 0 where
+  pub stop : LinkStop
+  pub cause : IsLinkCause stop out names old.files new.files
+  pub told : IsSaid (link_status stop) (link_line names stop) status old.err new.err
+
+-- no load, no save and no put of a line failed
+pub record LinkFailsNot (old new : World) : Type 0 where
+  pub loads : Rose old.files.failed_loads new.files.failed_loads → ⊥
+  pub saves : Rose old.files.failed_saves new.files.failed_saves → ⊥
+  pub err : Rose old.err.faults new.err.faults → ⊥
+
+-- the bytes under this name are those of an image of the objects that the files of these names held before
+pub record IsLinkOf (out : List ℕ) (names : List (List ℕ)) (old new : Files) : Type 0 where
+  pub objects : List Parts
+  pub held : FilesHoldProgram names objects old
+  pub image : Image
+  pub bytes : List ℕ
+  pub saved : new.file out ≡ Some bytes
+  pub read : IsRead bytes image
+  pub is : IsImageOf objects image
+
+pub record LinkAnswers (out : List ℕ) (names : List (List ℕ)) (old new : World) (status : ℕ) : Type 0 where
+  pub answer : IsDone out names old new status ⊎ IsStopped out names old new status
+  -- with status 0, over a store that tells, OUT holds an image that runs as the files' program
+  pub linked : status ≡ 0 → IsTrue old.files.tells → IsLinkOf out names old.files new.files
+  -- over a store that tells, the first cause why the files are no program is the one that is told
+  pub refused : (cause : NoProgramCause) → IsTrue old.files.tells → FilesHaveCause names cause old.files →
+      IsSaidOrWanting (no_program_status cause) (no_program_line names cause) status old.err new.err
+  -- over a store that tells, a program to which nothing fails is linked, unless memory runs out
+  pub complete : (objects : List Parts) → IsTrue old.files.tells → FilesHoldProgram names objects old.files → LinkFailsNot old new →
       (status ≡ 0) ⊎ (status ≡ 8)
-  -- not done: there is a cause, and its line is told
-  pub stopped : status ≢ 0 → (stop : Stop) × IsSaid (status_of stop) (line_of stop file) status old.err new.err
-      × IsCause old.files.tells file (old.files.file file) old.files.failed_loads new.files.failed_loads new.files.last_failed
-      old.files.failed_saves new.files.failed_saves stop
-  -- a file that is refused is told as such, unless the load fails or memory runs out; and no other file is
-  pub refused : (refusal : Refusal) → IsTrue old.files.tells → Refuses (old.files.file file) refusal →
-      IsSaid 3 (refusal_line refusal file) status old.err new.err
-      ⊎ (IsSaid 6 (codes "read fault\n") status old.err new.err ⊎ IsSaid 8 (codes "no memory\n") status old.err new.err)
-  pub only_refused : status ≡ 3 → (refusal : Refusal) × SaysLine (refusal_line refusal file) old.err new.err
-      × (IsTrue old.files.tells → Refuses (old.files.file file) refusal)
-  -- a fault is one of the outside
-  pub read_fault : status ≡ 6 → Rose old.files.failed_loads new.files.failed_loads × (new.files.last_failed ≡ Some file)
-      × SaysLine (codes "read fault\n") old.err new.err
-  pub write_fault : status ≡ 7 → Rose old.files.failed_saves new.files.failed_saves ⊎ Rose old.err.faults new.err.faults
-  pub no_memory : status ≡ 8 → SaysLine (codes "no memory\n") old.err new.err
-  -- one load of FILE is asked for, and at most one save, of OUT
-  pub loads : new.files.loads_asked ≡ raised old.files.loads_asked
-  pub no_read_fault : status ≢ 6 → status ≢ 7 → new.files.failed_loads ≡ old.files.failed_loads
-  pub last : status ≢ 6 → status ≢ 7 → new.files.last_failed ≡ old.files.last_failed
-  pub saved : status ≡ 0 → SavesOne out old.files new.files
-  pub no_write_fault : status ≡ 0 → new.files.failed_saves ≡ old.files.failed_saves
-  pub unsaved : status ≢ 0 → status ≢ 7 → SavesNothing old.files new.files
-  pub failed_save : status ≡ 7 → (Rose old.err.faults new.err.faults × SavesNothing old.files new.files)
-      ⊎ (Rose old.files.failed_saves new.files.failed_saves × SavesOne out old.files new.files)
   -- nothing is read from `input` or put on `out`
-  pub tells : new.files.tells ≡ old.files.tells
   pub input : new.input ≡ old.input
   pub out_kept : new.out ≡ old.out

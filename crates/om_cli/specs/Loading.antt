@@ -8,8 +8,8 @@ use Rattle.om_object.specs.File.{IsAccepted, object_rules, parts_of}
 use Rattle.om_object.specs.declared.errors.ObjErr.{ObjErr}
 use Rattle.om_object.specs.declared.errors.ObjErr.TheVariants as object
 use Rattle.om_object.specs.declared.parts.Parts.{Parts}
-use Rattle.om_cli.specs.Causes.{most_bytes}
-use Rattle.om_cli.specs.RunAnswers.{NoLoadFailed, LoadFailed}
+use Rattle.om_cli.specs.StoreCalls.{most_bytes}
+use Rattle.om_cli.specs.StoreCalls.{NoLoadFailed, LoadFailed}
 use Rattle.om_cli.specs.World.{Files}
 use Rattle.om_cli.specs.declared.loading.Loaded.{Loaded}
 use Rattle.om_cli.specs.declared.loading.FileStop.{FileStop}

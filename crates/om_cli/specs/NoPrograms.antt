@@ -1,4 +1,4 @@
--- Why the files of a command are no program: the causes, their statuses and their lines.
+-- Why no program was had of the files of a command: the causes, their statuses and their lines.
 use Rattle.std.specs.Prelude.{◌++◌, ℕ, ℤ, pos, int_lt, unsigned_abs, if◌then◌else◌, List, [], codes, decimal}
 use Rattle.om_io.specs.Digits.{hex}
 use Rattle.om_resolve.specs.declared.causes.Which.{Which}

@@ -1,4 +1,4 @@
--- The program of the files of a command, or why they are none.
+-- The program of the files of a command, or why none was had: they are none, a load failed, or memory ran out.
 use Rattle.std.specs.Prelude.{◌≡◌, ◌≤◌, ◌<◌, ◌-◌, ℕ, List, length, Some, None, Err}
 use Rattle.om_fields.specs.Rules.{IsFirstFault}
 use Rattle.om_object.specs.File.{object_rules}
@@ -7,7 +7,7 @@ use Rattle.om_prog.specs.View.{ProgramView}
 use Rattle.om_resolve.specs.Causes.{first_cause}
 use Rattle.om_resolve.specs.Program.{program_of, Resolves}
 use Rattle.om_resolve.specs.declared.causes.ResolveErr.{ResolveErr}
-use Rattle.om_cli.specs.Causes.{most_bytes}
+use Rattle.om_cli.specs.StoreCalls.{most_bytes}
 use Rattle.om_cli.specs.Loading.{AllLoaded, AreLoaded, AreRead, StopsAt, item_at, size_of}
 use Rattle.om_cli.specs.World.{Files}
 use Rattle.om_cli.specs.declared.loading.FileStop.{FileStop}
@@ -23,15 +23,16 @@ pub record HoldsProgram (names : List (List ℕ)) (old new : Files) (p : Program
   pub program : p ≡ program_of objects
 
 -- all files of these names hold objects, and this is the first cause why they are no program; or memory ran out
-pub record HasCause (names : List (List ℕ)) (old new : Files) (cause : ResolveErr) : Type 0 where
+pub record ObjectsStop (names : List (List ℕ)) (old new : Files) (cause : ResolveErr) : Type 0 where
   pub objects : List Parts
   pub loaded : AllLoaded names objects old new
   pub answer : Resolves objects (Err cause)
 
--- why the files are no program: one of them holds no object, or the objects have a cause against them
+-- why no program was had of the files: one of them gave no object, or there is a cause against the objects. A load that failed
+-- and want of memory are among the reasons
 abbrev pub AreNoProgram : List (List ℕ) → NoProgram → Files → Files → Type 0
 AreNoProgram names (File refused) old new = StopsAt names refused.place refused.stop old new
-AreNoProgram names (Objects cause) old new = HasCause names old new cause
+AreNoProgram names (Objects cause) old new = ObjectsStop names old new cause
 
 -- ---- the causes, by what the files of a store that tells hold
 
@@ -57,11 +58,11 @@ pub record IsFirstCause (names : List (List ℕ)) (cause : ResolveErr) (files : 
   pub loaded : AreLoaded files names objects
   pub first : first_cause objects ≡ Some cause
 
-abbrev pub HaveCause : List (List ℕ) → NoProgram → Files → Type 0
-HaveCause names (File refused) files = IsFirstRefused names refused.place refused.stop files
-HaveCause names (Objects cause) files = IsFirstCause names cause files
+abbrev pub FilesHaveCause : List (List ℕ) → NoProgram → Files → Type 0
+FilesHaveCause names (File refused) files = IsFirstRefused names refused.place refused.stop files
+FilesHaveCause names (Objects cause) files = IsFirstCause names cause files
 
 -- the files of these names hold objects, against which there is no cause
-pub record HoldNoCause (names : List (List ℕ)) (objects : List Parts) (files : Files) : Type 0 where
+pub record FilesHoldProgram (names : List (List ℕ)) (objects : List Parts) (files : Files) : Type 0 where
   pub loaded : AreLoaded files names objects
   pub uncaused : first_cause objects ≡ None

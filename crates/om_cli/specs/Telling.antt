@@ -1,4 +1,4 @@
--- What is put on the error stream: a line, whole or in part.
+-- What is put on a sink: a line or another text, whole or in part; and lines on the error stream with their statuses.
 use Rattle.std.specs.Prelude.{◌≡◌, ◌++◌, ◌⊎◌, ℕ, List, [], ◌∷◌, Option, Some, Result, codes, decimal}
 use Rattle.om_io.specs.Causes.{Rose, HasCause}
 use Rattle.om_io.specs.Outside.{Appends, IsFrontOf}
@@ -47,9 +47,18 @@ texts_of (p ∷ ps) = text_of p ++ texts_of ps
 abbrev pub usage_line : ℕ → List ℕ
 usage_line place = codes "usage " ++ decimal place ++ codes "\n"
 
--- the same over the error stream
+-- a status with its line, and a text or a front of it, over what a stream tells before and after
 abbrev pub IsSaid : ℕ → List ℕ → ℕ → Stream → Stream → Type 0
 IsSaid status line result old new = IsTold status line result old.told old.faults new.told new.faults
 
 abbrev pub SaysLine : List ℕ → Stream → Stream → Type 0
 SaysLine line old new = HasLine line old.told old.faults new.told new.faults
+
+abbrev pub SaysFront : List ℕ → Stream → Stream → Type 0
+SaysFront line old new = HasFront line old.told old.faults new.told new.faults
+
+-- a status with its line, or in their place those of a failed load or of want of memory
+abbrev pub IsSaidOrWanting : ℕ → List ℕ → ℕ → Stream → Stream → Type 0
+IsSaidOrWanting said line status old new =
+    IsSaid said line status old new
+    ⊎ (IsSaid 6 (codes "read fault\n") status old new ⊎ IsSaid 8 (codes "no memory\n") status old new)

@@ -1,5 +1,6 @@
 -- What the outside of a command tells: its files and its streams.
-use Rattle.std.specs.Prelude.{◌≡◌, ℕ, Bool, List, Option}
+use Rattle.std.specs.Prelude.{◌≡◌, ◌⊎◌, ◌++◌, ◌==◌, if◌then◌else◌, ℕ, Bool, List, Option, Some}
+use Rattle.om_io.specs.Causes.{Rose}
 
 -- A store: whether it tells what its files hold, the files by name, the counts of failed loads and saves, the name of the
 -- last load that failed, and how many loads and saves were asked for
@@ -29,6 +30,36 @@ pub record Streams : Type 0 where
 abbrev pub streams : Stream → Stream → Stream → Streams
 streams input out err = record { input = input; out = out; err = err }
 
+-- this is left of the input, and this was written on the descriptors 1 and 2 behind what was there before, where the streams tell
+pub record Stand (left on_1 on_2 : List ℕ) (old new : Streams) : Type 0 where
+  pub input : new.input.told ≡ Some left
+  pub out : (before : List ℕ) → old.out.told ≡ Some before → new.out.told ≡ Some (before ++ on_1)
+  pub err : (before : List ℕ) → old.err.told ≡ Some before → new.err.told ≡ Some (before ++ on_2)
+
+-- what stands on the descriptors 1 and 2 once these bytes were put on one of them
+abbrev pub on_out : ℕ → List ℕ → List ℕ → List ℕ
+on_out descriptor written bytes = if descriptor == 1 then written ++ bytes else written
+
+abbrev pub on_err : ℕ → List ℕ → List ℕ → List ℕ
+on_err descriptor written bytes = if descriptor == 1 then written else written ++ bytes
+
+-- no call of a stream failed
+pub record Faultless (old new : Streams) : Type 0 where
+  pub input : new.input.faults ≡ old.input.faults
+  pub out : new.out.faults ≡ old.out.faults
+  pub err : new.err.faults ≡ old.err.faults
+
+-- a read failed, and no put
+pub record FaultOfInput (old new : Streams) : Type 0 where
+  pub input : Rose old.input.faults new.input.faults
+  pub out : new.out.faults ≡ old.out.faults
+  pub err : new.err.faults ≡ old.err.faults
+
+-- a put failed, and no read
+pub record FaultOfSink (old new : Streams) : Type 0 where
+  pub input : new.input.faults ≡ old.input.faults
+  pub sinks : Rose old.out.faults new.out.faults ⊎ Rose old.err.faults new.err.faults
+
 pub record World : Type 0 where
   pub files : Files
   pub input : Stream
@@ -57,3 +88,10 @@ pub record IsUntouched (old new : World) : Type 0 where
   pub files : new.files ≡ old.files
   pub input : new.input ≡ old.input
   pub out : new.out ≡ old.out
+
+-- no load, no read of the input and no put failed
+pub record NothingFails (old new : World) : Type 0 where
+  pub loads : Rose old.files.failed_loads new.files.failed_loads → ⊥
+  pub input : Rose old.input.faults new.input.faults → ⊥
+  pub out : Rose old.out.faults new.out.faults → ⊥
+  pub err : Rose old.err.faults new.err.faults → ⊥

@@ -1,85 +1,98 @@
-// From a file to an image.
-ghost use Rattle.std.specs.Prelude.{◌≡◌, ◌≢◌, ◌≤◌, ◌⊎◌, ℕ, List, length, Some, IsTrue, IfOk, OnOk, IsErrOf};
-ghost use Rattle.om_io.specs.Causes.{Rose, raised};
-ghost use Rattle.om_object.specs.Thin.{BreaksRule};
-ghost use Rattle.om_cli.specs.Causes.{most_bytes, Refuses};
-ghost use Rattle.om_cli.specs.Linking.{Becomes, IsLinked, IsUnsaved, AsksSave};
-ghost use Rattle.om_cli.specs.declared.stopping.Refusal.{Refusal};
-ghost use Rattle.om_cli.specs.declared.stopping.Stop.{Stop};
+// From object files to an image.
+ghost use Rattle.std.specs.Prelude.{◌≡◌, IfOk, IfErr, OnOk};
+ghost use Rattle.om_words.specs.Sentences.{texts};
+ghost use Rattle.om_cli.specs.Links.{HoldsLink};
+ghost use Rattle.om_cli.specs.LinkAnswers.{HasLinked, IsLinkCause, LinkAnswers};
+ghost use Rattle.om_cli.specs.Programs.{AreNoProgram};
+ghost use Rattle.om_cli.specs.World.{Stream, files_of, stream, world};
 
-use crate::image::image_of;
-use crate::stopping::{Stop, stop_of_load, stop_of_object};
-use om_io::{Bytes, Failed, NoMemory, Store};
-use om_object::read_thin;
+use crate::link_stop::{LinkStop, report_link};
+use crate::loading::{MOST_OBJECTS, load_objects};
+use crate::no_program::NoProgram;
+use om_alpha::Level;
+use om_io::{Failed, Sink, Store};
+use om_link::{LinkErr, Linked, link};
+use om_resolve::ResolveErr;
 use std::alloc::Global;
 
-// The most bytes of the files of one call.
-const MOST_BYTES: u64 = 268_435_456;
-
-// The image of the program in a file's bytes.
-#[tactic(auto, using(crate::proofs::Faithful::becomes))]
-fn image_of_file(alloc: Global, bytes: &[u8]) -> Result<Bytes, Stop>
-    requires { length bytes.now ≤ most_bytes }
-    ensures refused { (refusal : Refusal) → IsErrOf result (Stop.Refused refusal) → Refuses (Some bytes.now) refusal }
-    ensures unbroken { OnOk result ((rule : ℕ) → (at : ℕ) → BreaksRule bytes.now rule at → ⊥) }
-    ensures no_read_fault { result ≢ Err Stop.ReadFault }
-    ensures no_write_fault { result ≢ Err Stop.WriteFault }
-    ensures becomes { IfOk result (λ image. Becomes bytes.now image) }
+/// Loads the files in the order in which the words name them, and links their objects with all of their words.
+pub(crate) fn load_link<S: Store>(
+    alloc: Global,
+    names: &[String],
+    store: &mut S,
+) -> Result<Linked, NoProgram>
+    ensures holds { IfOk result (λ l. HoldsLink (texts names.now)
+        (files_of (S.tells store.old) (S.file store.old) (S.failed_loads store.old) (S.failed_saves store.old)
+        (S.last_failed store.old) (S.loads_asked store.old) (S.saves_asked store.old))
+        (files_of (S.tells store.new) (S.file store.new) (S.failed_loads store.new) (S.failed_saves store.new)
+        (S.last_failed store.new) (S.loads_asked store.new) (S.saves_asked store.new)) l) }
+    ensures none { IfErr result (λ cause. AreNoProgram (texts names.now) cause
+        (files_of (S.tells store.old) (S.file store.old) (S.failed_loads store.old) (S.failed_saves store.old)
+        (S.last_failed store.old) (S.loads_asked store.old) (S.saves_asked store.old))
+        (files_of (S.tells store.new) (S.file store.new) (S.failed_loads store.new) (S.failed_saves store.new)
+        (S.last_failed store.new) (S.loads_asked store.new) (S.saves_asked store.new))) }
 {
-    let thin = match read_thin(alloc, bytes) {
-        Ok(thin) => thin,
-        Err(e) => return Err(stop_of_object(e)),
+    let objects = match load_objects(alloc, names, store) {
+        Ok(objects) => objects,
+        Err(refused) => return Err(NoProgram::File(refused)),
     };
-    match image_of(alloc, thin.words.as_slice()) {
-        Ok(image) => Ok(image),
-        Err(NoMemory) => Err(Stop::NoMemory),
+    if objects.as_slice().len() > MOST_OBJECTS {
+        return Err(NoProgram::Objects(ResolveErr::NoMemory));
+    }
+    match link(alloc, objects.as_slice(), Level::Plain) {
+        Ok(linked) => Ok(linked),
+        Err(LinkErr::Resolve(cause)) => Err(NoProgram::Objects(cause)),
+        Err(LinkErr::NoMemory) => Err(NoProgram::Objects(ResolveErr::NoMemory)),
     }
 }
 
-/// Loads a file of at most 268,435,456 bytes, and saves an image of the program in it.
-///
-/// One load is asked for, and one save where there is an image. Takes time and memory in proportion to the file.
-///
-/// Errors: `Refused` where the file is refused, `ReadFault` where the load failed, `WriteFault` where the save
-/// failed, and `NoMemory`.
-pub(crate) fn link<S: Store>(
+// Links files, and saves the image under `out`.
+fn save_link<S: Store>(
     alloc: Global,
     out: &str,
-    file: &str,
+    names: &[String],
     store: &mut S,
-) -> Result<(), Stop>
-    ensures linked { IsTrue (S.tells store.old) → OnOk result (IsLinked (S.file store.old file.now) (S.file store.new out.now)) }
-    ensures refused { IsTrue (S.tells store.old) → (refusal : Refusal) → IsErrOf result (Stop.Refused refusal)
-        → Refuses (S.file store.old file.now) refusal }
-    ensures refuses { IsTrue (S.tells store.old) → (refusal : Refusal) → Refuses (S.file store.old file.now) refusal
-        → (result ≡ Err (Stop.Refused refusal)) ⊎ ((result ≡ Err Stop.ReadFault) ⊎ (result ≡ Err Stop.NoMemory)) }
-
-    ensures loads { S.loads_asked store.new ≡ raised (S.loads_asked store.old) }
-    ensures read_fault { IsErrOf result Stop.ReadFault → Rose (S.failed_loads store.old) (S.failed_loads store.new) }
-    ensures whose { IsErrOf result Stop.ReadFault → S.last_failed store.new ≡ Some file.now }
-    ensures no_read_fault { result ≢ Err Stop.ReadFault → S.failed_loads store.new ≡ S.failed_loads store.old }
-    ensures last { result ≢ Err Stop.ReadFault → S.last_failed store.new ≡ S.last_failed store.old }
-
-    ensures unsaved { (stop : Stop) → IsErrOf result stop → stop ≢ Stop.WriteFault
-        → IsUnsaved (S.file store.old) (S.saves_asked store.old) (S.failed_saves store.old)
-        (S.file store.new) (S.saves_asked store.new) (S.failed_saves store.new) }
-    ensures saved { OnOk result (AsksSave out.now (S.file store.old) (S.saves_asked store.old) (S.file store.new) (S.saves_asked store.new)) }
-    ensures no_write_fault { OnOk result (S.failed_saves store.new ≡ S.failed_saves store.old) }
-    ensures failed_save { IsErrOf result Stop.WriteFault
-        → AsksSave out.now (S.file store.old) (S.saves_asked store.old) (S.file store.new) (S.saves_asked store.new) }
-    ensures write_fault { IsErrOf result Stop.WriteFault → Rose (S.failed_saves store.old) (S.failed_saves store.new) }
-    ensures tells { S.tells store.new ≡ S.tells store.old }
+) -> Result<(), LinkStop>
+    ensures done { OnOk result (HasLinked out.now (texts names.now)
+        (files_of (S.tells store.old) (S.file store.old) (S.failed_loads store.old) (S.failed_saves store.old)
+        (S.last_failed store.old) (S.loads_asked store.old) (S.saves_asked store.old))
+        (files_of (S.tells store.new) (S.file store.new) (S.failed_loads store.new) (S.failed_saves store.new)
+        (S.last_failed store.new) (S.loads_asked store.new) (S.saves_asked store.new))) }
+    ensures stopped { IfErr result (λ stop. IsLinkCause stop out.now (texts names.now)
+        (files_of (S.tells store.old) (S.file store.old) (S.failed_loads store.old) (S.failed_saves store.old)
+        (S.last_failed store.old) (S.loads_asked store.old) (S.saves_asked store.old))
+        (files_of (S.tells store.new) (S.file store.new) (S.failed_loads store.new) (S.failed_saves store.new)
+        (S.last_failed store.new) (S.loads_asked store.new) (S.saves_asked store.new))) }
 {
-    let bytes = match store.load(alloc, file, MOST_BYTES) {
-        Ok(bytes) => bytes,
-        Err(e) => return Err(stop_of_load(e)),
+    let linked = match load_link(alloc, names, store) {
+        Ok(linked) => linked,
+        Err(cause) => return Err(LinkStop::NoProgram(cause)),
     };
-    let image = match image_of_file(alloc, bytes.as_slice()) {
-        Ok(image) => image,
-        Err(stop) => return Err(stop),
-    };
-    match store.save(out, image.as_slice()) {
+    match store.save(out, linked.bytes.as_slice()) {
         Ok(()) => Ok(()),
-        Err(Failed) => Err(Stop::WriteFault),
+        Err(Failed) => Err(LinkStop::WriteFault),
+    }
+}
+
+/// Links files without rewriting, saves the image under `out`, and answers the status; what is wrong is said on the error
+/// stream. Asks for one load of each file, and for one save where there is an image.
+pub(crate) fn link_files<S: Store, E: Sink>(
+    alloc: Global,
+    out: &str,
+    names: &[String],
+    store: &mut S,
+    err: &mut E,
+) -> u8
+    ensures { (input sink : Stream) → LinkAnswers out.now (texts names.now)
+        (world (files_of (S.tells store.old) (S.file store.old) (S.failed_loads store.old) (S.failed_saves store.old)
+        (S.last_failed store.old) (S.loads_asked store.old) (S.saves_asked store.old)) input sink
+        (stream (E.written err.old) (E.faults err.old)))
+        (world (files_of (S.tells store.new) (S.file store.new) (S.failed_loads store.new) (S.failed_saves store.new)
+        (S.last_failed store.new) (S.loads_asked store.new) (S.saves_asked store.new)) input sink
+        (stream (E.written err.new) (E.faults err.new))) result }
+{
+    match save_link(alloc, out, names, store) {
+        Ok(()) => 0,
+        Err(stop) => report_link(err, names, &stop),
     }
 }

@@ -2,14 +2,17 @@
 ghost use Rattle.std.specs.Prelude.{◌≡◌, ◌≤◌, ◌-◌, length, Some, IsTrue, IfOk, IfErr, OnOk};
 ghost use Rattle.om_object.specs.File.{IsAccepted, parts_of};
 ghost use Rattle.om_words.specs.Sentences.{texts};
-ghost use Rattle.om_cli.specs.Causes.{most_bytes};
+ghost use Rattle.om_cli.specs.StoreCalls.{most_bytes};
 ghost use Rattle.om_cli.specs.Loading.{Loads, AllLoaded, IsObjectIn, IsNoObject, StopsAt, load_stop, object_stop};
-ghost use Rattle.om_cli.specs.RunAnswers.{LoadsOne, NoLoadFailed};
+ghost use Rattle.om_cli.specs.StoreCalls.{LoadsOne, NoLoadFailed};
 ghost use Rattle.om_cli.specs.World.{files_of};
 
 use om_io::{Listed, LoadErr, Store};
 use om_object::{ObjErr, Object, read_object};
 use std::alloc::Global;
+
+/// More objects than this have no numbers. So many names do not fit into memory.
+pub(crate) const MOST_OBJECTS: usize = 0xffff_ffff;
 
 // The most bytes of the files of one call.
 const MOST_BYTES: u64 = 268_435_456;
@@ -102,7 +105,7 @@ fn load_object<S: Store>(
     }
 }
 
-/// Loads the objects in files, in the order of their names, with at most 268,435,456 bytes in all; or says which file gives none.
+/// Loads the objects in files, in the order in which the words name them, with at most 268,435,456 bytes in all; or says which file gives none.
 pub(crate) fn load_objects<S: Store>(
     alloc: Global,
     names: &[String],

@@ -5,7 +5,7 @@ ghost use Rattle.om_resolve.specs.declared.causes.ResolveErr.{ResolveErr as AnyR
 ghost use Rattle.om_words.specs.Sentences.{texts};
 ghost use Rattle.om_cli.specs.Loading.{item_at};
 ghost use Rattle.om_cli.specs.NoPrograms.{which_name, rule_line, file_status, file_line, resolve_status, resolve_line, no_program_status, no_program_line, duplicate_line, unresolved_line, limit_line, far_line, reach_line, sign};
-ghost use Rattle.om_cli.specs.Telling.{Adds};
+ghost use Rattle.om_cli.specs.Telling.{Adds, IsTold};
 
 use crate::lines::{Piece, put_line};
 use crate::loading::{FileStop, Refused};
@@ -251,5 +251,16 @@ pub(crate) fn status_of_no_program(cause: &NoProgram) -> u8
     match cause {
         NoProgram::File(refused) => status_of_file(refused.stop),
         NoProgram::Objects(cause) => status_of_objects(cause),
+    }
+}
+
+/// Says on the error stream why these files are no program, and answers the status: 7 where the put failed.
+pub(crate) fn report_no_program<E: Sink>(err: &mut E, names: &[String], cause: &NoProgram) -> u8
+    ensures { IsTold (no_program_status cause.now) (no_program_line (texts names.now) cause.now) result
+        (E.written err.old) (E.faults err.old) (E.written err.new) (E.faults err.new) }
+{
+    match put_no_program(err, names, cause) {
+        Ok(()) => status_of_no_program(cause),
+        Err(Failed) => 7,
     }
 }

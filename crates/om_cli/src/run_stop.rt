@@ -1,6 +1,6 @@
-// Why a run stops, its status and its line.
-ghost use Rattle.std.specs.Prelude.{◌≡◌, ◌≢◌, ◌++◌, ℕ, List, true, false, codes, decimal};
-ghost use Rattle.om_cli.specs.RunStops.{kind_name as name_of_kind, image_line, trap_line, run_status, run_line, RunTold};
+// Why a run of an image stops, its status and its line.
+ghost use Rattle.std.specs.Prelude.{◌≡◌, ◌≢◌, ◌++◌, true, false, codes, decimal};
+ghost use Rattle.om_cli.specs.RunStops.{kind_name as name_of_kind, trap_line, run_status, run_line, RunTold};
 ghost use Rattle.om_cli.specs.Telling.{Adds, IsTold};
 ghost use Rattle.om_cli.specs.World.{stream};
 
@@ -8,20 +8,14 @@ use crate::lines::{Piece, put_line};
 use om_alpha::TrapKind;
 use om_io::{Failed, Sink};
 
-/// Why a run stops, or why there is none.
+/// Why a run of an image stops.
 #[derive(Clone, Copy, Debug, PartialEq, Eq)]
 pub enum RunStop {
-    /// There is no file of that name.
-    Missing,
-    /// The file has more bytes than a call may read.
-    TooLong,
-    /// The rule of images with this number is broken at this place, a byte offset in the file.
-    Rule { rule: u8, at: u64 },
-    /// The store's load failed, or the input did.
+    /// The input failed.
     ReadFault,
     /// A sink failed.
     WriteFault,
-    /// Memory ran out.
+    /// Memory ran out before the run.
     NoMemory,
     /// The run exited with this status.
     Exit(u8),
@@ -49,30 +43,12 @@ fn status_for(stop: RunStop) -> u8
 {
     match stop {
         RunStop::Exit(_) => 1,
-        RunStop::Missing => 3,
         RunStop::Trap { kind: _, at: _ } => 4,
         RunStop::Steps(_) => 5,
         RunStop::ReadFault => 6,
         RunStop::WriteFault => 7,
         RunStop::NoMemory => 8,
-        RunStop::TooLong | RunStop::Rule { rule: _, at: _ } => 9,
     }
-}
-
-fn put_rule<E: Sink>(err: &mut E, rule: u8, at: u64) -> Result<(), Failed>
-    ensures { Adds (image_line rule at)
-        (E.written err.old) (E.faults err.old) (E.written err.new) (E.faults err.new) result }
-{
-    put_line(
-        err,
-        &[
-            Piece::Text(b"image rule "),
-            Piece::Number(u64::from(rule)),
-            Piece::Text(b" at "),
-            Piece::Number(at),
-            Piece::Text(b"\n"),
-        ],
-    )
 }
 
 fn put_trap<E: Sink>(err: &mut E, kind: TrapKind, at: u64) -> Result<(), Failed>
@@ -102,28 +78,11 @@ fn put_counted<E: Sink>(err: &mut E, what: &[u8], n: u64) -> Result<(), Failed>
     )
 }
 
-fn put_missing<E: Sink>(err: &mut E, image: &str) -> Result<(), Failed>
-    ensures { Adds (run_line RunStop.Missing image.now)
-        (E.written err.old) (E.faults err.old) (E.written err.new) (E.faults err.new) result }
-{
-    put_line(
-        err,
-        &[
-            Piece::Text(b"missing "),
-            Piece::Text(image.as_bytes()),
-            Piece::Text(b"\n"),
-        ],
-    )
-}
-
-fn put_stop<E: Sink>(err: &mut E, image: &str, stop: RunStop) -> Result<(), Failed>
-    ensures { Adds (run_line stop image.now)
+fn put_stop<E: Sink>(err: &mut E, stop: RunStop) -> Result<(), Failed>
+    ensures { Adds (run_line stop)
         (E.written err.old) (E.faults err.old) (E.written err.new) (E.faults err.new) result }
 {
     match stop {
-        RunStop::Missing => put_missing(err, image),
-        RunStop::TooLong => put_line(err, &[Piece::Text(b"image too long\n")]),
-        RunStop::Rule { rule, at } => put_rule(err, rule, at),
         RunStop::ReadFault => put_line(err, &[Piece::Text(b"read fault\n")]),
         RunStop::WriteFault => put_line(err, &[Piece::Text(b"write fault\n")]),
         RunStop::NoMemory => put_line(err, &[Piece::Text(b"no memory\n")]),
@@ -133,11 +92,11 @@ fn put_stop<E: Sink>(err: &mut E, image: &str, stop: RunStop) -> Result<(), Fail
     }
 }
 
-fn tell_stop<E: Sink>(err: &mut E, image: &str, stop: RunStop) -> u8
-    ensures { IsTold (run_status stop) (run_line stop image.now) result
+fn tell_stop<E: Sink>(err: &mut E, stop: RunStop) -> u8
+    ensures { IsTold (run_status stop) (run_line stop) result
         (E.written err.old) (E.faults err.old) (E.written err.new) (E.faults err.new) }
 {
-    match put_stop(err, image, stop) {
+    match put_stop(err, stop) {
         Ok(()) => status_for(stop),
         Err(Failed) => 7,
     }
@@ -156,12 +115,12 @@ fn is_silent(stop: RunStop) -> bool
 
 /// Says on the error stream why a run stops, and answers the status: 7 where the put failed. A run that exits with 0 says
 /// nothing.
-pub(crate) fn report_stop<E: Sink>(err: &mut E, image: &str, stop: RunStop) -> u8
-    ensures { RunTold stop image.now result
+pub(crate) fn report_run<E: Sink>(err: &mut E, stop: RunStop) -> u8
+    ensures { RunTold stop result
         (stream (E.written err.old) (E.faults err.old)) (stream (E.written err.new) (E.faults err.new)) }
 {
     if is_silent(stop) {
         return 0;
     }
-    tell_stop(err, image, stop)
+    tell_stop(err, stop)
 }

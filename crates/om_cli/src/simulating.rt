@@ -5,7 +5,7 @@ ghost use Rattle.om_cli.specs.Programs.{HoldsProgram, AreNoProgram};
 ghost use Rattle.om_cli.specs.SimAnswers.{SimAnswers, IsSim, IsSimCause};
 ghost use Rattle.om_cli.specs.World.{files_of, stream, streams, world};
 
-use crate::loading::load_objects;
+use crate::loading::{MOST_OBJECTS, load_objects};
 use crate::no_program::NoProgram;
 use crate::sim_stop::{SimStop, report_sim};
 use om_io::{NoMemory, Sink, Source, Store};
@@ -13,9 +13,6 @@ use om_prog::Program;
 use om_resolve::{ResolveErr, resolve};
 use om_symrun::{SymRun, SymStep};
 use std::alloc::Global;
-
-// More objects than this have no numbers. So many words do not fit into memory.
-const MOST_OBJECTS: usize = 0xffff_ffff;
 
 /// Loads the program of object files.
 pub(crate) fn load_program<S: Store>(

@@ -5,7 +5,7 @@ use om_io::{Bytes, Failed, LoadErr, MemSink, MemStore, NullSink, NullSource, Sto
 use std::alloc::Global;
 use std::test::Fail;
 
-fn words(alloc: Global, line: &str) -> Result<Vec<String>, Fail> {
+pub(crate) fn words(alloc: Global, line: &str) -> Result<Vec<String>, Fail> {
     let mut words = Vec::new(alloc);
     for word in line.split_whitespace() {
         words.push(String::from_str(alloc, word)?)?;
@@ -22,7 +22,7 @@ fn put(file: &mut [u8], at: usize, bytes: &[u8]) {
 }
 
 // So many bytes of the file of `lda r0,1(r31)`, `lda r16,7(r31)`, `callsys`, with zeros behind its 368 bytes.
-fn exits_seven(alloc: Global, count: usize) -> Result<Vec<u8>, Fail> {
+pub(crate) fn exits_seven(alloc: Global, count: usize) -> Result<Vec<u8>, Fail> {
     let cells: [(usize, &[u8]); 15] = [
         (0, &[0x83, 1, 1]),
         (8, &[0xc0]),
@@ -56,9 +56,9 @@ fn store(alloc: Global, file: Vec<u8>, fails: &[u64]) -> Result<MemStore, Fail> 
 
 // A store that tells nothing, in which each file is too long to be loaded.
 #[derive(Drop)]
-struct LongFiles {
-    loads: u64,
-    saves: u64,
+pub(crate) struct LongFiles {
+    pub(crate) loads: u64,
+    pub(crate) saves: u64,
 }
 
 impl Store for LongFiles {
@@ -170,11 +170,11 @@ const REFUSED: [(&str, usize, (usize, u8), &[u64], &[u64], u8, &str); 14] = [
     (
         "link -O0 -o p a.o",
         368,
-        (138, 1),
+        (183, 0x58),
         &[],
         &[],
         3,
-        "object a.o rule 30 at 0\n",
+        "object a.o rule 21 at 180\n",
     ),
     (
         "link -O0 -o p a.o",

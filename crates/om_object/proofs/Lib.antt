@@ -1,5 +1,3 @@
-pub mod Broken
-pub mod ThinFields
 pub mod Places
 pub mod Bytes
 pub mod Elsewhere

@@ -1,7 +1,3 @@
-pub mod ThinText
-pub mod ThinFile
-pub mod Thin
-pub mod Rows
 pub mod Words
 pub mod Aims
 pub mod Rules

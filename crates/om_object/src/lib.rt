@@ -10,7 +10,6 @@ mod file_parts;
 mod file_tests;
 mod flags;
 mod heads;
-mod instructions;
 pub mod kinds;
 mod lituse;
 #[cfg(test)]
@@ -29,11 +28,7 @@ mod table_tests;
 mod tables;
 #[cfg(test)]
 mod test_files;
-#[cfg(test)]
-mod tests;
 mod text;
-mod thin;
-mod thin_file;
 #[cfg(test)]
 mod tool_files;
 #[cfg(test)]
@@ -43,4 +38,3 @@ pub mod words;
 pub use errors::{MakeErr, ObjErr};
 pub use object::{Object, read_object};
 pub use parts::{Parts, Section};
-pub use thin::{Thin, read_thin};

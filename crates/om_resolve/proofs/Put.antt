@@ -1,7 +1,9 @@
 -- One more entry of a map that stands for a list.
-use Rattle.std.proofs.Common.{◌≡◌, ℕ, Bool, true, false, ◌==◌, List, [], ◌∷◌, ◌++◌, refl, ap, sym, ◌∙◌, arith, cond}
+use Rattle.std.proofs.Common.{◌≡◌, ℕ, zero, suc, ◌*◌, ◌<◌, Bool, true, false, ◌==◌, List, [], ◌∷◌, ◌++◌, length, refl, ap, sym, subst, ◌∙◌, arith, cond, slice_index_or, slice_set}
 use Rattle.std.specs.Prelude.{if◌then◌else◌}
+use Rattle.std.proofs.lemmas.Bool.{true≢false}
 use Rattle.std.proofs.lemmas.Bool.Decides.{nat_tests}
+use Rattle.std.proofs.lemmas.List.{length-set}
 use Rattle.std.specs.Prelude.{Option, Some, None, is_some, find, option_map}
 use Rattle.std.specs.Option.{option_or}
 use Rattle.std.specs.BTreeMap.{BTreeMap, get}
@@ -60,27 +62,54 @@ one-given : (off : ℕ) (role : Role) (q : ℕ) (b : Bool) → (off == q) ≡ b 
 one-given off role q true e = rw e refl
 one-given off role q false e = rw e refl
 
--- a role at a new offset
-pub role_put : (m n : BTreeMap ℕ Role) (rs : List (ℕ × Role)) (off : ℕ) (role : Role) → HasRoles m rs → is_some (get nat_cmp m off) ≡ false
-    → ((q : ℕ) → get nat_cmp n q ≡ cond (is_eq (nat_cmp off q)) (Some role) (get nat_cmp m q)) → HasRoles n (rs ++ (off, role) ∷ [])
-role_put m n rs off role h fresh now = record {
-  holds = λ q.
-      now q ∙ ap (λ b. cond b (Some role) (get nat_cmp m q)) (same-key off q)
-      ∙ new-key off q role (get nat_cmp m q) (off == q) refl (λ e. ap (get nat_cmp m) (sym (equal-keys off q e)) ∙ none-is (get nat_cmp m off) fresh)
-      ∙ ap (λ (o : Option Role). option_or o (if off == q then Some role else None)) (h.holds q)
-      ∙ ap (option_or (role_given rs q)) (sym (one-given off role q (off == q) refl))
-      ∙ sym (given-append rs ((off, role) ∷ []) q);
+-- one more role, where it changes nothing at the words that are there
+role-at : (rs : List (ℕ × Role)) (off : ℕ) (role : Role) (q : ℕ) → role_given (rs ++ (off, role) ∷ []) q ≡ option_or (role_given rs q) (if off == q then Some role else None)
+role-at rs off role q = given-append rs ((off, role) ∷ []) q ∙ ap (option_or (role_given rs q)) (one-given off role q (off == q) refl)
+
+pub role_kept : (m : List (Option Role)) (rs : List (ℕ × Role)) (off : ℕ) (role : Role) → HasRoles m rs →
+    ((k : ℕ) → k < length m → off ≡ 4 * k → is_some (slice_index_or m k None) ≡ true) → HasRoles m (rs ++ (off, role) ∷ [])
+role_kept m rs off role h there = record {
+  holds = λ k below.
+      old-key off (4 * k) role (slice_index_or m k None) (off == 4 * k) refl (λ e. there k below (equal-keys off (4 * k) e))
+      ∙ ap (λ (o : Option Role). option_or o (if off == 4 * k then Some role else None)) (h.holds k below)
+      ∙ sym (role-at rs off role (4 * k));
 }
 
--- a role at an offset that has one
-pub role_kept : (m : BTreeMap ℕ Role) (rs : List (ℕ × Role)) (off : ℕ) (role : Role) → HasRoles m rs → is_some (get nat_cmp m off) ≡ true → HasRoles m (rs ++ (off, role) ∷ [])
-role_kept m rs off role h there = record {
-  holds = λ q.
-      old-key off q role (get nat_cmp m q) (off == q) refl (λ e. ap (λ k. is_some (get nat_cmp m k)) (sym (equal-keys off q e)) ∙ there)
-      ∙ ap (λ (o : Option Role). option_or o (if off == q then Some role else None)) (h.holds q)
-      ∙ ap (option_or (role_given rs q)) (sym (one-given off role q (off == q) refl))
-      ∙ sym (given-append rs ((off, role) ∷ []) q);
+-- a role at a word that has none
+both-later : (m n : ℕ) → (suc m == suc n) ≡ (m == n)
+both-later m n = grind (arith, nat_tests)
+
+here-or-there : (m : List (Option Role)) (role : Role) (word k : ℕ) (b : Bool) → word < length m → (word == k) ≡ b →
+    slice_index_or (slice_set m word (Some role)) k None ≡ cond b (Some role) (slice_index_or m k None)
+here-or-there [] role word k b below e = absurd (omega (arith, below))
+here-or-there (x ∷ xs) role zero zero true below e = refl
+here-or-there (x ∷ xs) role zero (suc k) false below e = refl
+here-or-there (x ∷ xs) role zero zero false below e = absurd (true≢false e)
+here-or-there (x ∷ xs) role zero (suc k) true below e = absurd (omega (arith, equal-keys zero (suc k) e))
+here-or-there (x ∷ xs) role (suc word) zero true below e = absurd (omega (arith, equal-keys (suc word) zero e))
+here-or-there (x ∷ xs) role (suc word) zero false below e = refl
+here-or-there (x ∷ xs) role (suc word) (suc k) b below e = here-or-there xs role word k b (omega (arith, below)) (sym (both-later word k) ∙ e)
+
+-- what is read of an entry that is there
+pub same-entry : (m : List (Option Role)) (word : ℕ) (here : Option Role) → word < length m → here ≡ slice_index_or m word here → here ≡ slice_index_or m word None
+same-entry [] word here below e = absurd (omega (arith, below))
+same-entry (x ∷ xs) zero here below e = e
+same-entry (x ∷ xs) (suc word) here below e = same-entry xs word here (omega (arith, below)) e
+
+pub role_put : (m : List (Option Role)) (rs : List (ℕ × Role)) (off : ℕ) (role : Role) (word : ℕ) → HasRoles m rs → word < length m → off ≡ 4 * word →
+    is_some (slice_index_or m word None) ≡ false → HasRoles (slice_set m word (Some role)) (rs ++ (off, role) ∷ [])
+role_put m rs off role word h inside same fresh = record {
+  holds = λ k below.
+      let here : k < length m = subst (λ n. k < n) (length-set m word (Some role)) below in
+      here-or-there m role word k (word == k) inside refl
+      ∙ new-key word k role (slice_index_or m k None) (word == k) refl (λ e. ap (λ j. slice_index_or m j None) (sym (equal-keys word k e)) ∙ none-is (slice_index_or m word None) fresh)
+      ∙ ap (λ (o : Option Role). option_or o (if word == k then Some role else None)) (h.holds k here)
+      ∙ ap (λ (b : Bool). option_or (role_given rs (4 * k)) (if b then Some role else None)) (same-word word k off same)
+      ∙ sym (role-at rs off role (4 * k));
 }
+  where
+    same-word : (word k off : ℕ) → off ≡ 4 * word → (word == k) ≡ (off == 4 * k)
+    same-word word k off same = grind (arith, nat_tests)
 
 one-quad : (lita : Section) (q : ℕ) (r : Reloc) (b : Bool) → is_quad r.kind ≡ true → (offset_of lita r == q) ≡ b → find (is_quad_at lita q) (r ∷ []) ≡ (if b then Some r else None)
 one-quad lita q r true k e = rw k (rw e refl)

@@ -113,19 +113,27 @@ fn literal_target(
     }
 }
 
-/// Gives the word at an offset a role, unless an earlier relocation stands on it.
-fn put(roles: &mut BTreeMap<u64, Role>, off: u64, role: Role) -> Result<(), NoMemory>
-    ensures { (rs : List (ℕ × AnyRole)) → HasRoles roles.old rs → OnOk result (HasRoles roles.new (rs ++ (off, role) ∷ [])) }
+/// Gives the word at an offset a role, unless an earlier relocation stands on it, or the offset is that of no word.
+fn put(roles: &mut Vec<Option<Role>>, off: u64, role: Role)
+    ensures length { length roles.new.items ≡ length roles.old.items }
+    ensures roles { (rs : List (ℕ × AnyRole)) → HasRoles roles.old.items rs → HasRoles roles.new.items (rs ++ (off, role) ∷ []) }
 {
-    if !roles.contains_key(&off) {
-        roles.insert(off, role)?;
+    if off % 4 != 0 {
+        return;
     }
-    Ok(())
+    if off / 4 >= roles.len() as u64 {
+        return;
+    }
+    let k = (off / 4) as usize;
+    if roles[k].is_some() {
+        return;
+    }
+    roles[k] = Some(role);
 }
 
 /// The role of the first word of a pair that sets the global pointer.
 fn add_high(
-    roles: &mut BTreeMap<u64, Role>,
+    roles: &mut Vec<Option<Role>>,
     l: &Linked<'_>,
     obj: u32,
     s: &Section,
@@ -133,13 +141,14 @@ fn add_high(
 ) -> Result<(), NoMemory>
     requires linked { IsLinked l.now }
     requires there { obj < length l.now.objects.now }
-    ensures { (rs : List (ℕ × AnyRole)) → HasRoles roles.old rs → OnOk result (HasRoles roles.new (rs ++ high_roles l.now.objects.now obj s.now r.now)) }
+    ensures length { length roles.new.items ≡ length roles.old.items }
+    ensures roles { (rs : List (ℕ × AnyRole)) → HasRoles roles.old.items rs → OnOk result (HasRoles roles.new.items (rs ++ high_roles l.now.objects.now obj s.now r.now)) }
 {
     match base_offset(parts(l.objects, obj), s, r) {
         None => Ok(()),
         Some(base) => {
             let base = place(obj, base)?;
-            put(roles, offset(s, r), Role::GpHi { base })?;
+            put(roles, offset(s, r), Role::GpHi { base });
             Ok(())
         }
     }
@@ -148,7 +157,7 @@ fn add_high(
 /// The roles of the two words of such a pair.
 #[tactic(auto, using(crate::proofs::Steps::append_append))]
 fn add_pair(
-    roles: &mut BTreeMap<u64, Role>,
+    roles: &mut Vec<Option<Role>>,
     l: &Linked<'_>,
     obj: u32,
     s: &Section,
@@ -156,17 +165,18 @@ fn add_pair(
 ) -> Result<(), NoMemory>
     requires linked { IsLinked l.now }
     requires there { obj < length l.now.objects.now }
-    ensures { (rs : List (ℕ × AnyRole)) → HasRoles roles.old rs → OnOk result (HasRoles roles.new (rs ++ roles_by l.now.objects.now obj s.now r.now GpDisp)) }
+    ensures length { length roles.new.items ≡ length roles.old.items }
+    ensures roles { (rs : List (ℕ × AnyRole)) → HasRoles roles.old.items rs → OnOk result (HasRoles roles.new.items (rs ++ roles_by l.now.objects.now obj s.now r.now GpDisp)) }
 {
     add_high(roles, l, obj, s, r)?;
     let hi = place(obj, offset(s, r))?;
-    put(roles, lda_offset(s, r), Role::GpLo { hi })?;
+    put(roles, lda_offset(s, r), Role::GpLo { hi });
     Ok(())
 }
 
 /// The role of a load of an address.
 fn add_literal(
-    roles: &mut BTreeMap<u64, Role>,
+    roles: &mut Vec<Option<Role>>,
     l: &Linked<'_>,
     obj: u32,
     slots: &Slots,
@@ -176,12 +186,13 @@ fn add_literal(
     requires linked { IsLinked l.now }
     requires there { obj < length l.now.objects.now }
     requires slots { AreSlots (object_at l.now.objects.now obj) slots.now }
-    ensures { (rs : List (ℕ × AnyRole)) → HasRoles roles.old rs → OnOk result (HasRoles roles.new (rs ++ roles_by l.now.objects.now obj s.now r.now Literal)) }
+    ensures length { length roles.new.items ≡ length roles.old.items }
+    ensures roles { (rs : List (ℕ × AnyRole)) → HasRoles roles.old.items rs → OnOk result (HasRoles roles.new.items (rs ++ roles_by l.now.objects.now obj s.now r.now Literal)) }
 {
     match literal_target(l, obj, slots, s, r)? {
         None => Ok(()),
         Some(t) => {
-            put(roles, offset(s, r), Role::Lit(t))?;
+            put(roles, offset(s, r), Role::Lit(t));
             Ok(())
         }
     }
@@ -189,7 +200,7 @@ fn add_literal(
 
 /// The role of a branch to a symbol.
 fn add_branch(
-    roles: &mut BTreeMap<u64, Role>,
+    roles: &mut Vec<Option<Role>>,
     l: &Linked<'_>,
     obj: u32,
     s: &Section,
@@ -198,12 +209,13 @@ fn add_branch(
     requires linked { IsLinked l.now }
     requires there { obj < length l.now.objects.now }
     requires external { r.now.external ≡ true }
-    ensures { (rs : List (ℕ × AnyRole)) → HasRoles roles.old rs → OnOk result (HasRoles roles.new (rs ++ roles_by l.now.objects.now obj s.now r.now BrAddr)) }
+    ensures length { length roles.new.items ≡ length roles.old.items }
+    ensures roles { (rs : List (ℕ × AnyRole)) → HasRoles roles.old.items rs → OnOk result (HasRoles roles.new.items (rs ++ roles_by l.now.objects.now obj s.now r.now BrAddr)) }
 {
     match code(branch_target(l, obj, s, r)?) {
         None => Ok(()),
         Some(q) => {
-            put(roles, offset(s, r), Role::To(q))?;
+            put(roles, offset(s, r), Role::To(q));
             Ok(())
         }
     }
@@ -212,7 +224,7 @@ fn add_branch(
 /// The roles that a relocation of the text gives.
 #[tactic(auto, unfolding(crate::specs::Program::roles_at))]
 fn add_roles(
-    roles: &mut BTreeMap<u64, Role>,
+    roles: &mut Vec<Option<Role>>,
     l: &Linked<'_>,
     obj: u32,
     slots: &Slots,
@@ -222,7 +234,8 @@ fn add_roles(
     requires linked { IsLinked l.now }
     requires there { obj < length l.now.objects.now }
     requires slots { AreSlots (object_at l.now.objects.now obj) slots.now }
-    ensures { (rs : List (ℕ × AnyRole)) → HasRoles roles.old rs → OnOk result (HasRoles roles.new (rs ++ roles_at l.now.objects.now obj s.now r.now)) }
+    ensures length { length roles.new.items ≡ length roles.old.items }
+    ensures roles { (rs : List (ℕ × AnyRole)) → HasRoles roles.old.items rs → OnOk result (HasRoles roles.new.items (rs ++ roles_at l.now.objects.now obj s.now r.now)) }
 {
     match r.kind {
         RelocKind::Literal => add_literal(roles, l, obj, slots, s, r),
@@ -237,7 +250,7 @@ fn add_roles(
     }
 }
 
-/// The roles that the relocations of the text give, by the offsets of the words.
+/// The roles that the relocations of the text give, by the numbers of its words.
 #[tactic(auto, using(crate::proofs::Steps::joined_more), unfolding(crate::specs::Program::roles_in))]
 pub(crate) fn roles_of(
     alloc: Global,
@@ -245,13 +258,15 @@ pub(crate) fn roles_of(
     obj: u32,
     slots: &Slots,
     s: &Section,
-) -> Result<BTreeMap<u64, Role>, NoMemory>
+    words: usize,
+) -> Result<Vec<Option<Role>>, NoMemory>
     requires linked { IsLinked l.now }
     requires there { obj < length l.now.objects.now }
     requires slots { AreSlots (object_at l.now.objects.now obj) slots.now }
-    ensures { IfOk result (λ m. HasRoles m (roles_in l.now.objects.now obj s.now)) }
+    ensures length { IfOk result (λ v. length v.items ≡ words) }
+    ensures roles { IfOk result (λ v. HasRoles v.items (roles_in l.now.objects.now obj s.now)) }
 {
-    let mut roles = BTreeMap::new(alloc);
+    let mut roles = vec![in alloc; None; words]?;
     let relocs = s.relocs.as_slice();
     for k in 0..relocs.len() {
         let r = relocs[k];

@@ -14,25 +14,25 @@ use om_object::entry::long;
 use om_object::words::section;
 use om_prog::{Item, Role};
 use std::alloc::Global;
-use std::collections::BTreeMap;
 
 /// The word of a number of a text.
 #[tactic(auto, unfolding(crate::specs::Program::role_at))]
 fn item(
     l: &Linked<'_>,
     obj: u32,
-    roles: &BTreeMap<u64, Role>,
+    roles: &[Option<Role>],
     s: &Section,
-    k: u64,
+    k: usize,
 ) -> Result<Item, NoMemory>
     requires few { k < 2 ^ 62 }
+    requires there { k < length roles.now }
     requires roles { HasRoles roles.now (roles_in l.now.objects.now obj s.now) }
     ensures { IfOk result (λ i. i ≡ item_of l.now.objects.now obj s.now k) }
 {
-    let off = 4 * k;
+    let off = 4 * k as u64;
     let word = long(s.bytes.as_slice(), off) as u32;
-    let role = match roles.get(&off) {
-        Some(role) => *role,
+    let role = match roles[k] {
+        Some(role) => role,
         None => own_role(obj, s, off)?,
     };
     Ok(Item {
@@ -53,9 +53,10 @@ fn items(alloc: Global, l: &Linked<'_>, obj: u32, s: &Section) -> Result<Vec<Ite
     let _instr: Option<Instr> = None;
     let _operand: Option<Opnd> = None;
     let slots = slots_of(alloc, parts(l.objects, obj))?;
-    let roles = roles_of(alloc, l, obj, &slots, s)?;
+    let count = (s.size / 4) as usize;
+    let roles = roles_of(alloc, l, obj, &slots, s, count)?;
     let mut words = Vec::new(alloc);
-    for k in 0..s.size / 4 {
+    for k in 0..count {
         words.push(item(l, obj, &roles, s, k)?)?;
     }
     Ok(words)

@@ -2,7 +2,8 @@ use Rattle.std.proofs.Common.{refl}
 use Rattle.om_prog.specs.Script.{program_script}
 use Rattle.om_prog.specs.Runs.{sym_start}
 use Rattle.om_symrun.specs.declared.machine.SymStep.TheVariants as step
-use Rattle.om_cli.proofs.Simmed.{sim_first_is, sim_arrived, sim_wanted, sim_read_failed, sim_put_failed, none_taken, faultless, no_faults, went_is_no_fault, exit_is_no_fault, trap_is_no_fault, observes_is_no_fault, want_is_no_fault}
+use Rattle.om_cli.proofs.Ran.{faultless, input_fault, sink_fault}
+use Rattle.om_cli.proofs.Simmed.{sim_first_is, sim_arrived, sim_wanted, sim_read_failed, sim_put_failed, none_taken, no_faults, went_is_no_fault, exit_is_no_fault, trap_is_no_fault, observes_is_no_fault, want_is_no_fault, read_is_no_write, write_is_no_read}
 use Rattle.om_cli.proofs.simulating.sim_program.Goals as goal
 
 pub returns-in-Went : goal.returns-in-Went
@@ -50,7 +51,7 @@ returns-in-Observes g c = (
 
 pub returns-in-ReadFault : goal.returns-in-ReadFault
 returns-in-ReadFault g c = (
-  c.in-ReadFault.ensures.read_fault refl,
+  input_fault _ _ (c.in-ReadFault.ensures.read_fault refl) (c.in-ReadFault.ensures.no_write_fault read_is_no_write),
   λ xs told.
       sim_read_failed c.args.program.now c.args.steps _ xs _ _ c.in-Ok.machine.program c.in-Ok.ensures.program
       (c.in-ReadFault.ensures.runs (sym_start (program_script c.args.program.now) xs)
@@ -60,7 +61,7 @@ returns-in-ReadFault g c = (
 
 pub returns-in-WriteFault : goal.returns-in-WriteFault
 returns-in-WriteFault g c = (
-  c.in-WriteFault.ensures.write_fault refl,
+  sink_fault _ _ (c.in-WriteFault.ensures.no_read_fault write_is_no_read) (c.in-WriteFault.ensures.write_fault refl),
   λ xs told.
       sim_put_failed c.args.program.now c.args.steps _ xs _ _ c.in-Ok.machine.program c.in-Ok.ensures.program
       (c.in-WriteFault.ensures.runs (sym_start (program_script c.args.program.now) xs)
@@ -79,4 +80,4 @@ returns g c = (
 )
 
 pub returns-in-Err : goal.returns-in-Err
-returns-in-Err g c = (no_faults _, λ xs told. none_taken c.args.program.now c.args.steps _ xs)
+returns-in-Err g c = (no_faults _, λ xs told. none_taken c.args.program.now c.args.steps _ xs told)
