@@ -6,8 +6,8 @@ top=$(cd "$(dirname "$0")/.." && pwd)
 work=$(mktemp -d)
 trap 'rm -rf "$work"' EXIT
 
-echo "1. Proving and building om. The first time every function of the program is proved, which takes"
-echo "   a quarter of an hour or more; after that a proof is made again only for what has changed."
+echo "1. Proving and building om. The first time every function of the program is proved, which takes half an"
+echo "   hour on four processors; after that a proof is made again only for what has changed."
 cd "$top/crates/om_cli"
 rt run -- 2>&1 | tee "$work/log" | sed 's/^/   | /' || true
 grep -q '^usage 1$' "$work/log" || { echo "   om could not be proved and built" >&2; exit 1; }
