@@ -3,17 +3,10 @@
 # LITERAL on every fourth word, and 256 objects with 1,000,000 symbols, three times each; and the listing of an image of the
 # former. Needs the kit's `rt`, Python 3, GNU time and 1 GB of room.
 set -eu
-top=$(cd "$(dirname "$0")/.." && pwd)
-work=$(mktemp -d)
-trap 'rm -rf "$work"' EXIT
+. "$(dirname "$0")/build_om.sh"
 
-cd "$top/crates/om_cli"
-rt run -- >"$work/log" 2>&1 || true
-grep -q '^usage 1$' "$work/log" || { echo "om could not be proved and built" >&2; exit 1; }
 python3 -B "$top/samples/make_link.py" "$work"
 
-om=$top/crates/om_cli/out/om_cli
-cd "$work"
 for kind in text:4 text:8 text:16 name:256; do
     name=${kind%:*}
     count=${kind#*:}

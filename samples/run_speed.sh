@@ -2,13 +2,8 @@
 # Shows how fast images run: a loop of a load, an addition, a subtraction and a branch, taken 67,108,864 times, three times by
 # `om run` and three times as a plain loop of the same work that rustc -O compiles. Needs the kit's `rt`, Python 3 and rustc.
 set -eu
-top=$(cd "$(dirname "$0")/.." && pwd)
-work=$(mktemp -d)
-trap 'rm -rf "$work"' EXIT
+. "$(dirname "$0")/build_om.sh"
 
-cd "$top/crates/om_cli"
-rt run -- >"$work/log" 2>&1 || true
-grep -q '^usage 1$' "$work/log" || { echo "om could not be proved and built" >&2; exit 1; }
 python3 "$top/samples/make_loop.py" "$work/loop"
 
 cat >"$work/plain.rs" <<'END'
@@ -30,8 +25,7 @@ fn main() {
 END
 rustc -O -o "$work/plain" "$work/plain.rs"
 
-cd "$work"
-for program in "$top/crates/om_cli/out/om_cli run loop" "$work/plain"; do
+for program in "$om run loop" "$work/plain"; do
     for turn in 1 2 3; do
         start=$(date +%s%N)
         $program
