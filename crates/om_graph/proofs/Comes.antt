@@ -1,5 +1,5 @@
 -- A run's place is in a block of the kept set, or is a text's end.
-use Rattle.std.proofs.Common.{◌≡◌, ◌⊎◌, ◌<◌, ◌≤◌, ◌+◌, ◌*◌, inl, inr, ℕ, zero, suc, Bool, true, false, length, List, [], ◌∷◌, Option, Some, None, refl, sym, ap, ◌∙◌, subst, arith}
+use Rattle.std.proofs.Common.{◌%◌, ◌≡◌, ◌⊎◌, ◌<◌, ◌≤◌, ◌+◌, ◌*◌, inl, inr, ℕ, zero, suc, Bool, true, false, length, List, [], ◌∷◌, Option, Some, None, refl, sym, ap, ◌∙◌, subst, arith}
 use Rattle.std.specs.Prelude.{slice_index_or}
 use Rattle.std.proofs.lemmas.Bool.{cases_lt}
 use Rattle.om_value.specs.declared.value.Place.{Place}
@@ -64,6 +64,7 @@ module _ (g : GraphView) (within : InLabels g) (kept : KeptInBlocks g) (placed :
           after = omega (arith, f);
           below = λ l i. let v = is_true n.label l (found_behind g.labels n.label l i).0 in let v1 = v.1 in omega (arith, f, v1);
           in_text = subst (λ (y : Place). y.off < 4 * slice_index_or g.counts y.obj 0) e (within.inside n.label (within.among n h));
+          aligned = subst (λ (y : Place). y.off % 4 ≡ 0) e (within.aligned n.label (within.among n h));
         },
       )
 
@@ -121,10 +122,13 @@ module _ (g : GraphView) (within : InLabels g) (kept : KeptInBlocks g) (placed :
       ends : w.at.off + 4 ≤ 4 * slice_index_or g.counts w.at.obj 0
       ends = within.words w (found_has (all_words g.blocks) q w e)
 
+      next_aligned : (w.at.off + 4) % 4 ≡ 0
+      next_aligned = let a = within.word_aligned w (found_has (all_words g.blocks) q w e) in omega (arith, a)
+
       at_end : label_after g.labels f.block.label ≡ None → (w.at.off + 4 < 4 * slice_index_or g.counts w.at.obj 0) ⊎ (4 * slice_index_or g.counts w.at.obj 0 ≤ w.at.off + 4) → Comes g (next_place w.at)
       at_end n (inl y) =
           let a = at_label.1 in
-          inl (f.block, record { among = f.among; kept = k; object = at_label.0; after = omega (arith, a); below = λ l i. none_some l (sym n ∙ i); in_text = y })
+          inl (f.block, record { among = f.among; kept = k; object = at_label.0; after = omega (arith, a); below = λ l i. none_some l (sym n ∙ i); in_text = y; aligned = next_aligned })
         where
           none_some : (l : Place) → None ≡ Some l → w.at.off + 4 < l.off
           none_some l i = cc
@@ -139,7 +143,7 @@ module _ (g : GraphView) (within : InLabels g) (kept : KeptInBlocks g) (placed :
           let o = (is_true f.block.label l u.0).0 in
           let i = within.inside l u.1 in
           let i' = subst (λ (o : ℕ). l.off < 4 * slice_index_or g.counts o 0) (o ∙ sym at_label.0) i in
-          inl (f.block, record { among = f.among; kept = k; object = at_label.0; after = omega (arith, a); below = λ m j. subst (λ (x : Place). w.at.off + 4 < x.off) (same_some (sym h ∙ j)) y; in_text = omega (arith, y, i') })
+          inl (f.block, record { among = f.among; kept = k; object = at_label.0; after = omega (arith, a); below = λ m j. subst (λ (x : Place). w.at.off + 4 < x.off) (same_some (sym h ∙ j)) y; in_text = omega (arith, y, i'); aligned = next_aligned })
         where
           same_some : {x y : Place} → Some x ≡ Some y → x ≡ y
           same_some e = cc

@@ -219,7 +219,7 @@ module _ (p : ProgramView) (prog : IsProgram p) (g : GraphView) (of : IsGraphOf 
       by_order (inl a) = half_of p l (next_place l) q i a (of_pair l q h) f
       by_order (inr a) = half_of p (next_place l) l q i a (swapped (of_pair l q h)) f
 
-  opening_is : (b : Block) (h : Has g.blocks b) → b.opening ≡ true → is_opening_pair p b.label ≡ true
+  pub opening_is : (b : Block) (h : Has g.blocks b) → b.opening ≡ true → is_opening_pair p b.label ≡ true
   opening_is b h e =
       let s = shape_at p prog g of b h in
       let i = block_shape p prog g of b h in

@@ -28,6 +28,7 @@ pub mod UseRows
 pub mod BoundRows
 pub mod KeptRows
 pub mod Pieces
+pub mod Numbers
 pub mod OfProgram
 pub mod Forms
 pub mod LiftedOf
@@ -43,4 +44,11 @@ pub mod RowSearch
 pub mod GraphReads
 pub mod GraphEdits
 pub mod StartSums
-pub mod TestLabels
+pub mod Tables
+pub mod Grouping
+pub mod Grouped
+pub mod GroupedLoads
+pub mod GroupedOnce
+pub mod LastBy
+pub mod LeftRows
+pub mod FullTables

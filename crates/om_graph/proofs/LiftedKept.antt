@@ -237,7 +237,7 @@ module _ (p : ProgramView) where
   some_there : (q : Place) (text : List Item) (k : ℕ) (i : Item) (test : Role → Bool) → slice_get p.texts q.obj ≡ Some text → slice_get text k ≡ Some i → test i.role ≡ true → some_role p test ≡ true
   some_there q text k i test f g h = any_at (λ t. list_any (λ i. test i.role) t) p.texts q.obj text f (any_at (λ i. test i.role) text k i g h)
 
-  to_shapes : (o : ℕ) (texts : List (List Item)) (j : ℕ) (t : List Item) (s : Shape) → slice_get texts j ≡ Some t → Has (text_shapes p (o + j) t) s → Has (shapes_from p o texts) s
+  pub to_shapes : (o : ℕ) (texts : List (List Item)) (j : ℕ) (t : List Item) (s : Shape) → slice_get texts j ≡ Some t → Has (text_shapes p (o + j) t) s → Has (shapes_from p o texts) s
   to_shapes o [] j t s e h = cc
   to_shapes o (u ∷ texts) zero t s e h =
       let same : t ≡ u = back e in
@@ -251,14 +251,14 @@ module _ (p : ProgramView) where
       (to_shapes (suc o) texts j t s e (subst (λ (k : ℕ). Has (text_shapes p k t) s) (omega arith) h))
 
 -- a word with its text
-record WordAt (p : ProgramView) (q : Place) : Type 0 where
-  text : List Item
-  item : Item
-  found : slice_get p.texts q.obj ≡ Some text
-  there : slice_get text (q.off / 4) ≡ Some item
-  even : q.off % 4 ≡ 0
+pub record WordAt (p : ProgramView) (q : Place) : Type 0 where
+  pub text : List Item
+  pub item : Item
+  pub found : slice_get p.texts q.obj ≡ Some text
+  pub there : slice_get text (q.off / 4) ≡ Some item
+  pub even : q.off % 4 ≡ 0
 
-word_at : (p : ProgramView) (q : Place) → is_word p q ≡ true → WordAt p q
+pub word_at : (p : ProgramView) (q : Place) → is_word p q ≡ true → WordAt p q
 word_at p q h = by_text (slice_get p.texts q.obj) refl (item_at p q) refl h
   where
     by_text : (t : Option (List Item)) → slice_get p.texts q.obj ≡ t → (o : Option Item) → item_at p q ≡ o → is_some o ≡ true → WordAt p q

@@ -1,8 +1,9 @@
 -- In a graph of a program words stand in their blocks' places, no target that came from a load is a place in code, and
 -- opening pairs stand apart from the ends of blocks.
-use Rattle.std.proofs.Common.{◌≡◌, ◌⊎◌, inl, inr, ◌<◌, ◌≤◌, ◌+◌, ◌*◌, ℕ, zero, suc, List, [], ◌∷◌, length, Some, refl, sym, ap, ◌∙◌, subst, arith}
-use Rattle.std.specs.Prelude.{map, slice_get, slice_index_or}
+use Rattle.std.proofs.Common.{◌%◌, ◌/◌, ◌==◌, Bool, true, false, cond, None, ◌≡◌, ◌⊎◌, inl, inr, ◌<◌, ◌≤◌, ◌+◌, ◌*◌, ℕ, zero, suc, List, [], ◌∷◌, length, Some, refl, sym, ap, ◌∙◌, subst, arith}
+use Rattle.std.specs.Prelude.{option_and_then, map, slice_get, slice_index_or}
 use Rattle.om_value.specs.declared.value.Place.{Place}
+use Rattle.std.proofs.lemmas.Bool.{eqb-true}
 use Rattle.om_prog.specs.declared.item.Item.{Item}
 use Rattle.om_prog.specs.Act.{Word}
 use Rattle.om_prog.specs.View.{ProgramView, item_at}
@@ -40,6 +41,18 @@ words_within p at (i ∷ is) w k (inr h) =
     let a = r.after in
     let b = r.below in
     record { object = r.object; after = omega (arith, a); below = omega (arith, b); item = r.item; there = r.there; stands = r.stands; word = r.word }
+
+-- a word of a text stands at a multiple of 4
+pub item_aligned : (p : ProgramView) (q : Place) (item : Item) → item_at p q ≡ Some item → q.off % 4 ≡ 0
+item_aligned p q item e = by_test (q.off % 4 == 0) refl e
+  where
+    by_test : (b : Bool) → (q.off % 4 == 0) ≡ b → cond b (option_and_then (λ (text : List Item). slice_get text (q.off / 4)) (slice_get p.texts q.obj)) None ≡ Some item → q.off % 4 ≡ 0
+    by_test true t e = eqb-true (q.off % 4) 0 t
+    by_test false t e = cc
+
+first_aligned : (p : ProgramView) (at : Place) (items : List Item) → Known p at items → 0 < length items → at.off % 4 ≡ 0
+first_aligned p at [] k h = absurd (omega arith)
+first_aligned p at (i ∷ is) k h = item_aligned p at i k.0
 
 words_after : (p : ProgramView) (at : Place) (items : List Item) (v : Word) → Known p at items → v.at.off + 4 ≤ at.off → After v (text_words at items)
 words_after p at [] v k l = tt
@@ -130,8 +143,11 @@ module _ (p : ProgramView) (prog : IsProgram p) where
         ap (λ (y : Shape). shape_words y) (sym i.shape)
         ∙ piece_words p (piece_ops i.piece.from i.piece.items) (4 * length i.text) i.piece.from i.piece.items (c.inside i.piece i.among)
 
-    shape_known : Known p i.piece.from i.piece.items
+    pub shape_known : Known p i.piece.from i.piece.items
     shape_known = is.known i.piece i.among
+
+    pub label_aligned : i.piece.from.off % 4 ≡ 0
+    label_aligned = first_aligned p i.piece.from i.piece.items shape_known shape_some
 
     pub shape_word : (w : Word) → Has (shape_words s) w → Within p i.piece.from i.piece.items w
     shape_word w h = words_within p i.piece.from i.piece.items w shape_known (subst (λ (l : List Word). Has l w) shape_words_are h)
@@ -204,7 +220,7 @@ module _ (p : ProgramView) (prog : IsProgram p) (g : GraphView) (of : IsGraphOf 
   label_shape : (q : Place) → Has g.labels q → (s : Shape) × Has (lifted_shapes p) s × (s.label ≡ q)
   label_shape q h = of_map (λ s. s.label) (lifted_shapes p) q (subst (λ (l : List Place). Has l q) of.labels h)
 
-  size_is : (obj : ℕ) (text : List Item) → slice_get p.texts obj ≡ Some text → text_size g obj ≡ 4 * length text
+  pub size_is : (obj : ℕ) (text : List Item) → slice_get p.texts obj ≡ Some text → text_size g obj ≡ 4 * length text
   size_is obj text f = ap (λ (c : List ℕ). 4 * slice_index_or c obj 0) of.counts ∙ ap (λ (n : ℕ). 4 * n) (count_is p.texts obj text f)
 
   pub word_from : (b : Block) (h : Has g.blocks b) (u : Word) → Has (block_words b) u → Origin p (shape_words (shape_at b h)) (shape_words (shape_at b h)) u
@@ -223,6 +239,12 @@ module _ (p : ProgramView) (prog : IsProgram p) (g : GraphView) (of : IsGraphOf 
       let u = shape_upto p prog r.0 i in
       let e = shape_some p prog r.0 i in
       (omega (arith, o, b, n), omega (arith, f, s, u, e))
+
+  labels_aligned : (q : Place) → Has g.labels q → q.off % 4 ≡ 0
+  labels_aligned q h =
+      let r = label_shape q h in
+      let i = is_shape p r.0 r.1 in
+      subst (λ (x : Place). x.off % 4 ≡ 0) (sym (label_is p prog r.0 i) ∙ r.2) (label_aligned p prog r.0 i)
 
   words_in : (b : Block) (u : Word) → Has g.blocks b → Has (block_words b) u → IsPlaced g b.label u.at
   words_in b u h m = placed_by
@@ -276,11 +298,12 @@ module _ (p : ProgramView) (prog : IsProgram p) (g : GraphView) (of : IsGraphOf 
           let y = w.below in
           let up = upto in
           let sz = size in
-          record { object = object; after = omega (arith, z, lo, a); before = before_next; inside = omega (arith, z, y, up, sz) }
+          record { object = object; after = omega (arith, z, lo, a); before = before_next; inside = omega (arith, z, y, up, sz); aligned = subst (λ (x : Place). x.off % 4 ≡ 0) (sym r.place) (item_aligned p r.word.at w.item w.there) }
 
   pub words_in_place : InPlace g
   words_in_place = record {
     labels = labels_in;
+    aligned = labels_aligned;
     words = words_in;
     ordered = λ b h. kept_ordered p _ _ _ (of.blocks b h).2.words (shape_ordered p prog (shape_at b h) (block_shape b h));
   }

@@ -110,7 +110,7 @@ of_branch Straight ra h = is_31 ra h
 of_branch Bsr ra h = is_31 ra h
 of_branch (If k) ra h = absurd h
 
-links_of : (a : Act) → act_links a ≡ true → Links a
+pub links_of : (a : Act) → act_links a ≡ true → Links a
 links_of (Plain i) h = plain_of i h
 links_of (To op ra to) h = branch_of op ra h
 links_of (Lit ra rb t) h = true≢false (sym h)
@@ -122,7 +122,7 @@ links_of (UseLo i hi t) h = true≢false (sym h)
 links_of (UseGp i gp t) h = true≢false (sym h)
 links_of Wrong h = true≢false (sym h)
 
-of_links : (a : Act) → Links a → act_links a ≡ true
+pub of_links : (a : Act) → Links a → act_links a ≡ true
 of_links (Plain i) h = of_plain i h
 of_links (To op ra to) h = of_branch op ra h
 of_links (Lit ra rb t) h = absurd h

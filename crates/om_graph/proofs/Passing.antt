@@ -1,7 +1,7 @@
 -- A pass that owes nothing more keeps meaning.
 use Rattle.std.proofs.Common.{◌≡◌, ◌⊎◌, inl, inr, ℕ, Bool, true, false, ◌==◌, List, [], ◌∷◌, Option, Some, None, refl, sym, ap, ◌∙◌, subst}
 use Rattle.std.proofs.lemmas.Bool.{true≢false, eqb-true, eq-eqb}
-use Rattle.om_isa.specs.Effect.{Set, Jump}
+use Rattle.om_isa.specs.Effect.{Nothing, Set, Jump}
 use Rattle.om_value.specs.declared.value.Place.{Place}
 use Rattle.om_value.specs.declared.value.Value.{Value}
 use Rattle.om_prog.specs.Act.{Word, Script, act_keeps, act_writes}
@@ -20,7 +20,7 @@ use Rattle.om_graph.specs.Rewritten.{SameFrame}
 use Rattle.om_graph.proofs.Forward.{keeps_meaning, runs_go}
 use Rattle.om_prog.specs.View.{ProgramView}
 use Rattle.om_graph.specs.Form.{is_address}
-use Rattle.om_graph.specs.Pass.{Like, same, jumps, sets, Pass}
+use Rattle.om_graph.specs.Pass.{Like, same, jumps, sets, idles, Pass}
 use Rattle.om_graph.specs.Matching.{Simulates, Matched}
 use Rattle.om_graph.proofs.Straight.{Straight, idle, sets as puts, over, act_straight}
 use Rattle.om_prog.specs.Laws.{with_words}
@@ -108,6 +108,18 @@ module _ (c : Script) (fetch : Place → Option Word) (K : Place → Type 0) (g 
         other r l n (inr (inl i)) = absurd (n i)
         other r l n (inr (inr i)) = absurd i
 
+    behind_idle : (v : Value) → Ready Nothing → Meet (w.at ∷ ps) (next_place w.at) (next_place w.at) → Behind (Set 31 v) Nothing
+    behind_idle v ready meets = record {
+      beside = record { cells = refl; heap = refl; input = refl; out = refl; err = refl; ended = refl };
+      place = λ h. meets;
+      regs = λ h r l. other r (31 == r) refl (ready h r l);
+    }
+      where
+        other : (r : ℕ) (b : Bool) → (31 == r) ≡ b → (read_reg t.regs r ≡ read_reg s.regs r) ⊎ Among [] r → read_reg (write_reg t.regs 31 v) r ≡ read_reg s.regs r
+        other r b e (inr m) = absurd m
+        other r true e (inl a) = subst (λ (x : ℕ). read_reg (write_reg t.regs 31 v) x ≡ read_reg s.regs x) (eqb-true 31 r e) refl
+        other r false e (inl a) = unwritten t.regs 31 v r (λ i. true≢false (sym (eq-eqb 31 r i) ∙ e)) ∙ a
+
     behind_like : (f x : SymEffect) → e ≡ x → Ready x → Like c fetch K g live Meet I L ps w f x → Behind f x
     behind_like f x is ready (same eq meets) =
         subst (λ (y : SymEffect). Behind y x) (sym eq)
@@ -118,6 +130,9 @@ module _ (c : Script) (fetch : Place → Option Word) (K : Place → Type 0) (g 
     behind_like f x is ready (sets k u v eq was dead meets) =
         subst (λ (y : SymEffect). Behind y x) (sym eq)
         (subst (λ (y : SymEffect). Behind (Set k u) y) (sym was) (behind_set k u v (subst (λ (y : SymEffect). Ready y) was ready) dead meets))
+    behind_like f x is ready (idles v eq was meets) =
+        subst (λ (y : SymEffect). Behind y x) (sym eq)
+        (subst (λ (y : SymEffect). Behind (Set 31 v) y) (sym was) (behind_idle v (subst (λ (y : SymEffect). Ready y) was ready) meets))
 
     going_on : (after s w.at e).ended ≡ None → (b : Bool) → effect_ends e ≡ b → effect_ends e ≡ false
     going_on on true h = absurd (after_over s w.at e h on)

@@ -1,5 +1,5 @@
 -- In a graph in form whose words stand in their blocks' places, blocks and words follow each other as control does.
-use Rattle.std.proofs.Common.{◌≡◌, ◌⊎◌, ◌<◌, ◌≤◌, ◌+◌, ◌*◌, inl, inr, ℕ, Bool, true, false, cond, length, List, [], ◌∷◌, ◌++◌, Option, Some, None, refl, sym, ap, ◌∙◌, subst, arith}
+use Rattle.std.proofs.Common.{◌≡◌, ◌⊎◌, ◌<◌, ◌≤◌, ◌+◌, ◌*◌, ◌%◌, inl, inr, ℕ, Bool, true, false, cond, length, List, [], ◌∷◌, ◌++◌, Option, Some, None, refl, sym, ap, ◌∙◌, subst, arith}
 use Rattle.std.specs.Prelude.{map, slice_index_or}
 use Rattle.std.specs.Option.{option_or}
 use Rattle.std.proofs.lemmas.Bool.{true≢false}
@@ -38,6 +38,8 @@ pub record InLabels (g : GraphView) : Type 0 where
       (b : Block) (w : Word) (l : Place) → Has g.blocks b → Has (block_words b) w → label_after g.labels b.label ≡ Some l →
       w.at.off + 4 ≤ l.off
   pub objects : (b : Block) → Has g.blocks b → b.label.obj < length g.counts
+  pub aligned : (q : Place) → Has g.labels q → q.off % 4 ≡ 0
+  pub word_aligned : (w : Word) → Has (all_words g.blocks) w → w.at.off % 4 ≡ 0
   pub off : (b : Block) → Has g.blocks b → b.last ≡ Off → label_after g.labels b.label ≡ None
 
 pub in_labels : (g : GraphView) → IsGraph g → InForm g → InPlace g → InLabels g
@@ -49,6 +51,8 @@ in_labels g graph form places = record {
   words = λ w h. let i = has_in g.blocks w h in (places.words i.block w i.among i.word).inside;
   below = λ b w l h m e. (places.words b w h m).before l e;
   objects = λ b h. (places.labels b.label (graph.among b.label (has_label g.blocks b h))).0;
+  aligned = places.aligned;
+  word_aligned = λ w h. let i = has_in g.blocks w h in (places.words i.block w i.among i.word).aligned;
   off = form.ends;
 }
 

@@ -1,6 +1,6 @@
 -- When a graph is in form: branches and jumps are the ends of blocks, each of the kind that its Last says; and the
 -- place of each word fits the block that it stands in.
-use Rattle.std.specs.Prelude.{◌≡◌, ℕ, ◌+◌, ◌*◌, ◌<◌, ◌≤◌, Bool, true, false, ◌&&◌, ◌==◌, nat_lt, List, [], ◌∷◌, find, length, Option, Some, None, slice_index_or}
+use Rattle.std.specs.Prelude.{◌%◌, ◌≡◌, ℕ, ◌+◌, ◌*◌, ◌<◌, ◌≤◌, Bool, true, false, ◌&&◌, ◌==◌, nat_lt, List, [], ◌∷◌, find, length, Option, Some, None, slice_index_or}
 use Rattle.om_isa.specs.declared.instr.BrOp.{BrOp}
 use Rattle.om_isa.specs.declared.instr.BrOp.TheVariants.{If}
 use Rattle.om_isa.specs.declared.instr.Instr.{Instr}
@@ -122,9 +122,11 @@ pub record IsPlaced (g : GraphView) (label : Place) (at : Place) : Type 0 where
   pub after : label.off ≤ at.off
   pub before : (l : Place) → label_after g.labels label ≡ Some l → at.off + 4 ≤ l.off
   pub inside : at.off + 4 ≤ text_size g at.obj
+  pub aligned : at.off % 4 ≡ 0
 
 -- words stand where their blocks are, in order
 pub record InPlace (g : GraphView) : Type 0 where
   pub labels : (q : Place) → Has g.labels q → (q.obj < length g.counts) × (q.off < text_size g q.obj)
+  pub aligned : (q : Place) → Has g.labels q → q.off % 4 ≡ 0
   pub words : (b : Block) (w : Word) → Has g.blocks b → Has (block_words b) w → IsPlaced g b.label w.at
   pub ordered : (b : Block) → Has g.blocks b → Ordered (block_words b)

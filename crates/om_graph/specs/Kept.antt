@@ -1,6 +1,6 @@
 -- The kept set: the blocks that a run may come to, as what is kept leads to them and names them; and the places to which
 -- a jump by a register may go.
-use Rattle.std.specs.Prelude.{◌≡◌, ◌⊎◌, ◌<◌, ◌≤◌, ℕ, Some, length}
+use Rattle.std.specs.Prelude.{◌%◌, ◌≡◌, ◌⊎◌, ◌<◌, ◌≤◌, ℕ, Some, length}
 use Rattle.om_isa.specs.declared.instr.BrOp.{BrOp}
 use Rattle.om_isa.specs.declared.instr.BrOp.TheVariants.{If}
 use Rattle.om_isa.specs.declared.instr.Instr.{Instr}
@@ -99,7 +99,7 @@ pub record IsKeptLanding (g : GraphView) (q : Place) : Type 0 where
 
 -- ---- where a run may be
 
--- a place in a block of the kept set: at its label or behind it, before the next label and the text's end
+-- the place of a word, in a block of the kept set: at its label or behind it, before the next label and the text's end
 pub record IsInside (g : GraphView) (b : Block) (q : Place) : Type 0 where
   pub among : Has g.blocks b
   pub kept : IsInKeptSet g b.label
@@ -107,6 +107,7 @@ pub record IsInside (g : GraphView) (b : Block) (q : Place) : Type 0 where
   pub after : b.label.off ≤ q.off
   pub below : (l : Place) → label_after g.labels b.label ≡ Some l → q.off < l.off
   pub in_text : q.off < text_size g q.obj
+  pub aligned : q.off % 4 ≡ 0
 
 -- a place in a block of the kept set, or a text's end
 abbrev pub Comes : GraphView → Place → Type 0

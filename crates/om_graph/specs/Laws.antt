@@ -9,7 +9,8 @@ use Rattle.om_prog.specs.Facts.{Holds, Fact, Allows, changed_by, fact_behind, Is
 use Rattle.om_graph.specs.View.{Block, GraphView, Has}
 use Rattle.om_graph.specs.Held.{IsGraph}
 use Rattle.om_graph.specs.Run.{block_words, rev_onto, graph_script}
-use Rattle.om_graph.specs.Form.{InForm, InPlace}
+use Rattle.om_graph.specs.Form.{InForm, InPlace, Ordered}
+use Rattle.om_graph.specs.Uses.{LastBy}
 use Rattle.om_graph.specs.LeftIn.{left_in, Keeps}
 use Rattle.om_graph.specs.Kept.{KeptInBlocks, IsKeptLabel, IsKeptLanding, Comes}
 use Rattle.om_graph.specs.Checks.{GpChecked, Enters, ReachesBlock, ReadsBlock, MaskChecked, AreOuts, live_in, told_at}
@@ -18,7 +19,7 @@ use Rattle.om_graph.specs.Walks.{WalksTo, MayRead, Reaches, IsGpFact}
 use Rattle.om_graph.specs.Pairs.{PairsApart}
 use Rattle.om_graph.specs.Whole.{IsWhole}
 use Rattle.om_graph.specs.Lifted.{IsLifted}
-use Rattle.om_graph.specs.OfProgram.{IsGraphOf}
+use Rattle.om_graph.specs.OfProgram.{IsGraphOf, IsLastWriter}
 use Rattle.om_prog.specs.Valid.{IsProgram}
 use Rattle.om_prog.specs.Script.{program_run}
 
@@ -119,3 +120,14 @@ pub record GraphsOfPrograms : Type 0 where
   pub places : (p : ProgramView) (g : GraphView) → IsProgram p → IsGraphOf p g → InPlace g
   pub apart : (p : ProgramView) (g : GraphView) → IsProgram p → IsGraphOf p g → PairsApart g
   pub whole : (p : ProgramView) (g : GraphView) → IsProgram p → IsGraphOf p g → KeptInBlocks g → IsWhole p g
+
+-- ---- words of a block
+
+-- in words of one text, in order, the last writer before a word is told by places
+pub record LastWritersByPlaces : Type 0 where
+  pub by_places :
+      (obj : ℕ) (ws : List Word) → Ordered ws → ((w : Word) → Has ws w → w.at.obj ≡ obj) →
+      (q : Place) (r : ℕ) (w : Word) → IsLastWriter ws q r w → LastBy ws q r w
+  pub of_places :
+      (obj : ℕ) (ws : List Word) → Ordered ws → ((w : Word) → Has ws w → w.at.obj ≡ obj) →
+      (q : Place) (r : ℕ) (w user : Word) → Has ws user → user.at ≡ q → LastBy ws q r w → IsLastWriter ws q r w

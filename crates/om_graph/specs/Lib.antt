@@ -4,6 +4,7 @@ pub mod Laid
 pub mod Run
 pub mod LeftIn
 pub mod Matching
+pub mod Numbers
 pub mod Index
 pub mod Walks
 pub mod Pairs
@@ -20,5 +21,13 @@ pub mod Uses
 pub mod Outs
 pub mod ActRows
 pub mod OfProgram
+pub mod Tables
+pub mod Grouping
 pub mod Fits
 pub mod Rows
+pub mod GroupRows
+pub mod Same
+pub mod Weight
+pub mod Left
+pub mod Stands
+pub mod LeftRows

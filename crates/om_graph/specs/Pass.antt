@@ -1,6 +1,6 @@
 -- What a pass owes so that it keeps meaning.
 use Rattle.std.specs.Prelude.{◌≡◌, ◌⊎◌, ℕ, Bool, true, false, List, [], ◌∷◌, Option, Some}
-use Rattle.om_isa.specs.Effect.{Set, Jump}
+use Rattle.om_isa.specs.Effect.{Nothing, Set, Jump}
 use Rattle.om_value.specs.declared.value.Place.{Place}
 use Rattle.om_value.specs.declared.value.Value.{Value}
 use Rattle.om_prog.specs.Act.{Word, Script, act_keeps, act_writes}
@@ -34,6 +34,9 @@ module _ (c : Script) (fetch : Place → Option Word) (K : Place → Type 0) (g 
     sets :
         (r : ℕ) (u v : Value) → new ≡ Set r u → old ≡ Set r v → live (w.at ∷ ps) (next_place w.at) r ≡ false → Meet (w.at ∷ ps) (next_place w.at) (next_place w.at) →
         Like ps w new old
+    -- a write to r31, where nothing was done
+    idles :
+        (v : Value) → new ≡ Set 31 v → old ≡ Nothing → Meet (w.at ∷ ps) (next_place w.at) (next_place w.at) → Like ps w new old
 
   pub record Pass : Type 0 where
     -- the old run: its codes, and what is known of it

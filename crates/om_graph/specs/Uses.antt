@@ -1,7 +1,7 @@
 -- Uses of results within a block, known calls and pairs: what the rules of rewriting speak of. r31 is never set, read or
 -- written: a local use is of another register, and what is said of none that reads or writes takes r31 as it stands in
 -- the words.
-use Rattle.std.specs.Prelude.{◌≡◌, ◌⊎◌, ℕ, ◌+◌, ℤ, true, List, ◌∷◌, ◌++◌, IsTrue}
+use Rattle.std.specs.Prelude.{◌≡◌, ◌⊎◌, ◌<◌, ℕ, ◌+◌, ℤ, true, List, ◌∷◌, ◌++◌, IsTrue}
 use Rattle.om_isa.specs.declared.instr.Access.TheVariants.{Address, Store}
 use Rattle.om_isa.specs.declared.instr.JumpOp.TheVariants.{Jsr}
 use Rattle.om_isa.specs.declared.instr.Opnd.TheVariants.{R, Lit as Literal}
@@ -33,6 +33,14 @@ NoneWrites r ws = (w : Word) → Has ws w → Among (act_writes w.act) r → ⊥
 -- a register is the same behind words as in front of them; r31 always is
 abbrev pub Unwritten : ℕ → List Word → Type 0
 Unwritten r ws = (r ≡ 31) ⊎ NoneWrites r ws
+
+-- the last word before a place that writes a register, of words of one text: by their places, whatever order they have
+pub record LastBy (ws : List Word) (q : Place) (r : ℕ) (w : Word) : Type 0 where
+  pub among : Has ws w
+  pub earlier : w.at.off < q.off
+  pub writes : Among (act_writes w.act) r
+  pub none :
+      (v : Word) → Has ws v → w.at.off < v.at.off → v.at.off < q.off → Among (act_writes v.act) r → ⊥
 
 -- of the words of a block one reads in a register what an earlier one wrote there
 pub record IsLocalUse (ws : List Word) (def user : Word) (r : ℕ) : Type 0 where

@@ -1,14 +1,15 @@
 //! The graph and its calls.
-ghost use Rattle.std.specs.Prelude.{◌≡◌, ◌<◌, ◌^◌, length, Some, IfSome, IfOk, OnErr, IsTrue, slice_index_or, false};
+ghost use Rattle.std.specs.Prelude.{◌≡◌, ◌<◌, ◌^◌, ℕ, length, Some, IfSome, IfOk, OnErr, IsTrue, slice_index_or, true, false};
 ghost use Rattle.om_graph.specs.Held.{IsGraph};
 ghost use Rattle.om_graph.specs.View.{is_live_block, is_live_op, IsAfter, made, block_added, op_added, labelled, label_of, opening_of, last_of, op_of, first_block_id, block_id_after, first_op_of, next_op_of, next_touched_of, replaced, deleted, last_set, dropped, table_set, cleared};
 ghost use Rattle.om_graph.specs.Index.{index_of};
+ghost use Rattle.om_graph.specs.Numbers.{number_of, AreNumbered};
 
 use crate::ids::{BlockId, OpId};
 use crate::op::{Last, Op, OpKind};
 use crate::parts::{
-    Row, clear_rows, count_before, count_up_to, drop_row, end_row, first_touched, numbered,
-    touch_row,
+    Row, clear_rows, count_up_to, drop_row, end_row, first_near, first_touched, note_near,
+    numbered, place_before, touch_row,
 };
 use crate::starts::starts_and_tables;
 use om_arena::{Arena, ListId};
@@ -31,6 +32,9 @@ pub struct Graph {
     tables: Vec<u32>,
     // All blocks that were added, in order of their labels, each at the number of its list of ops.
     rows: Vec<Row>,
+    // For each word of the program the number of a row: of the last that was added whose label has the word's index. A
+    // label is looked for there first.
+    near: Vec<u32>,
     kept: Arena<ListId>,
     // The one list of `kept`.
     order: ListId,
@@ -68,6 +72,7 @@ impl Graph {
             roots: Vec::from_slice(alloc, roots)?,
             tables,
             rows: Vec::new(alloc),
+            near: first_near(alloc, texts)?,
             kept,
             order,
             ops: Arena::new(alloc),
@@ -89,6 +94,24 @@ impl Graph {
         let obj = p.obj as usize;
         let words = (p.off as u64 + 3) / 4;
         self.starts[obj] + words.min(self.counts[obj] as u64)
+    }
+
+    // The place of a label in `near`, or one past its end.
+    fn near_place(&self, label: Place) -> usize {
+        if label.obj as usize >= self.counts.len() {
+            return self.near.len();
+        }
+        self.index(label) as usize
+    }
+
+    // A row to look at first for a label.
+    fn near_row(&self, label: Place) -> usize {
+        let at = self.near_place(label);
+        if at < self.near.len() {
+            self.near[at] as usize
+        } else {
+            0
+        }
     }
 
     /// The entry, then the places that initial fields name.
@@ -121,6 +144,7 @@ impl Graph {
         ensures added { IfOk result (λ b. self.new ≡ block_added self.old b label opening) }
         ensures refused { OnErr result (self.new ≡ self.old) }
     {
+        let at = self.near_place(label);
         self.rows.reserve(1)?;
         if self.kept.reserve(1).is_err() {
             return Err(NoMemory);
@@ -128,6 +152,7 @@ impl Graph {
         let Ok(list) = self.ops.add_list() else {
             return Err(NoMemory);
         };
+        note_near(&mut self.near, at, self.rows.len());
         let kept = Some(self.kept.push_back(self.order, list));
         self.rows.push_reserved(Row {
             label,
@@ -158,7 +183,7 @@ impl Graph {
         ensures block { result ≡ labelled self.now label }
         ensures live { IfSome result (λ b. IsTrue (is_live_block self.now b)) }
     {
-        let at = count_before(self.rows.as_slice(), label);
+        let at = place_before(self.rows.as_slice(), self.near_row(label), label);
         if at >= self.rows.len() {
             return None;
         }
@@ -166,6 +191,29 @@ impl Graph {
         if row.label == label {
             self.kept.ids_differ();
             numbered(&self.kept, row.kept)
+        } else {
+            None
+        }
+    }
+
+    /// How many blocks the graph was made with: the number of each block is below it.
+    pub fn rows(&self) -> usize
+        ensures { (id : ℕ) → is_live_block self.now id ≡ true → id < result }
+    {
+        self.rows.len()
+    }
+
+    /// The number of the block that the graph was made with at a label, also where that block is dropped. None comes
+    /// exactly where it was made with none there. It takes no memory.
+    pub fn number(&self, label: Place) -> Option<usize>
+        ensures { result ≡ number_of self.now label }
+    {
+        let row = place_before(self.rows.as_slice(), self.near_row(label), label);
+        if row >= self.rows.len() {
+            return None;
+        }
+        if self.rows[row].label == label {
+            Some(row)
         } else {
             None
         }
@@ -306,6 +354,13 @@ impl Graph {
     /// A law: labels stand in order, blocks and marks among them, and each id names one block or op.
     pub fn is_graph(&self)
         ensures { IsGraph self.now }
+    {
+        let _ = &self.rows;
+    }
+
+    /// A law: the id of each kept block is the number of its label.
+    pub fn is_numbered(&self)
+        ensures { AreNumbered self.now }
     {
         let _ = &self.rows;
     }

@@ -35,7 +35,8 @@ impl BlockId {
         self.list
     }
 
-    pub(crate) fn number(self) -> usize
+    /// The block's number among all that the graph was made with. It is never given again.
+    pub fn number(self) -> usize
         ensures { result ≡ self }
     {
         self.list.number()
@@ -78,5 +79,12 @@ impl OpId {
         ensures { result ≡ self }
     {
         self.id
+    }
+
+    /// The op's number. While the op is live no other has it.
+    pub fn number(self) -> usize
+        ensures { result ≡ self }
+    {
+        self.id.number()
     }
 }

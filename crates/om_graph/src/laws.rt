@@ -1,6 +1,8 @@
 // The laws of graphs, on which the rewriting passes rest. Each function does nothing when it is called: its contract is
 // a law on the definitions in specs/, proved for all programs and graphs.
-ghost use Rattle.om_graph.specs.Laws.{PassesCompose, SomeStepIsLeftIn, RunsStayInKeptSet, CheckedFactsHold, CheckedMasksHold, LiftKeepsMeaning, GraphsOfPrograms};
+ghost use Rattle.om_graph.specs.Grouping.{GroupingKeepsMeaning};
+ghost use Rattle.om_graph.specs.Tables.{OtherTables};
+ghost use Rattle.om_graph.specs.Laws.{PassesCompose, SomeStepIsLeftIn, RunsStayInKeptSet, CheckedFactsHold, CheckedMasksHold, LiftKeepsMeaning, GraphsOfPrograms, LastWritersByPlaces};
 
 /// A graph keeps its own meaning, and passes in a row that keep meaning keep it together.
 pub fn passes_compose()
@@ -37,4 +39,20 @@ pub fn lift_keeps_meaning()
 /// A graph of a program is what the other laws ask for.
 pub fn graphs_of_programs()
     ensures { GraphsOfPrograms }
+{}
+
+/// A graph whose objects have other tables keeps all steps of a run that shows no address, and is a graph of its program.
+pub fn other_tables()
+    ensures { OtherTables }
+{}
+
+/// Grouping the objects' tables keeps all steps of a run that shows no address, and the new tables are tables of the
+/// program's graphs.
+pub fn grouping_keeps_meaning()
+    ensures { GroupingKeepsMeaning }
+{}
+
+/// In words of one text, in order, the last one before a place that writes a register is told by places.
+pub fn last_writers_by_places()
+    ensures { LastWritersByPlaces }
 {}

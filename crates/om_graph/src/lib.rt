@@ -8,13 +8,12 @@ mod laws;
 mod op;
 mod parts;
 mod starts;
-#[cfg(test)]
-mod tests;
 
 pub use graph::Graph;
 pub use ids::{BlockId, OpId};
 pub use laws::{
-    checked_facts_hold, checked_masks_hold, graphs_of_programs, lift_keeps_meaning, passes_compose,
+    checked_facts_hold, checked_masks_hold, graphs_of_programs, grouping_keeps_meaning,
+    last_writers_by_places, lift_keeps_meaning, other_tables, passes_compose,
     runs_stay_in_kept_set, some_step_is_left_in,
 };
 pub use op::{Last, Op, OpKind};

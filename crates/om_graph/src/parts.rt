@@ -7,7 +7,9 @@ ghost use Rattle.om_graph.specs.View.{place_lt, InPlaceOrder};
 use crate::ids::BlockId;
 use crate::op::Last;
 use om_arena::{Arena, Id, ListId};
+use om_io::NoMemory;
 use om_value::Place;
+use std::alloc::Global;
 
 // A block that was added. Its number is that of its list of ops.
 #[derive(Clone, Copy)]
@@ -39,6 +41,40 @@ pub(crate) fn count_before(rows: &[Row], p: Place) -> usize
     ensures above { (i : ℕ) → result ≤ i → i < length rows.now → place_lt (row_at rows.now i).label p ≡ false }
 {
     rows.partition_point(|r| is_before(r.label, p))
+}
+
+// The same. The row at `near` is looked at first.
+pub(crate) fn place_before(rows: &[Row], near: usize, p: Place) -> usize
+    requires { InPlaceOrder (labels_of rows.now) }
+    ensures bound { result ≤ length rows.now }
+    ensures below { (i : ℕ) → i < result → place_lt (row_at rows.now i).label p ≡ true }
+    ensures above { (i : ℕ) → result ≤ i → i < length rows.now → place_lt (row_at rows.now i).label p ≡ false }
+{
+    if near < rows.len() {
+        if rows[near].label == p {
+            return near;
+        }
+    }
+    count_before(rows, p)
+}
+
+// A number for each word of texts.
+pub(crate) fn first_near(alloc: Global, texts: &[u32]) -> Result<Vec<u32>, NoMemory> {
+    let mut words: u64 = 0;
+    for count in texts {
+        words = words.saturating_add(*count as u64);
+    }
+    let near = vec![in alloc; 0; words as usize]?;
+    Ok(near)
+}
+
+// Puts a row's number at a place, if there is such a place.
+pub(crate) fn note_near(near: &mut Vec<u32>, at: usize, row: usize) {
+    if at < near.len() {
+        if row < 4_000_000_000 {
+            near[at] = row as u32;
+        }
+    }
 }
 
 // How many of the rows have labels that are not behind the place.

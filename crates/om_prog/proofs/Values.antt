@@ -1,11 +1,13 @@
 -- Values that are known hold along a run.
-use Rattle.std.proofs.Common.{◌≡◌, ℕ, Bool, true, false, cond, ◌&&◌, ◌==◌, Some, None, refl, sym, ap, ◌∙◌, subst}
+use Rattle.std.proofs.Common.{◌≡◌, ℕ, Bool, true, false, cond, ◌&&◌, ◌||◌, ◌==◌, Some, None, refl, sym, ap, ◌∙◌, subst}
 use Rattle.std.specs.Prelude.{not}
 use Rattle.std.proofs.lemmas.Bool.{true≢false, eqb-true, eq-eqb}
 use Rattle.om_value.specs.declared.value.Place.{Place}
 use Rattle.om_value.specs.declared.value.Value.{Value}
 use Rattle.om_value.specs.declared.value.Value.TheVariants.{Num, Ptr, Code, Gp, Half, GpOff}
+use Rattle.om_value.specs.declared.value.Region.{Region}
 use Rattle.om_value.specs.declared.value.Target.{Target}
+use Rattle.om_value.specs.declared.value.Target.TheVariants as target
 use Rattle.om_value.specs.Same.{value_eq}
 use Rattle.om_value.specs.Lift.{value_of}
 use Rattle.om_isa.specs.Effect.{Nothing, Set, StepObserves}
@@ -60,6 +62,20 @@ module _ (c : Script) (s : SymState) (at : Place) (k : Values) (holds : HoldsVal
   load_holds ra rb t r v false e h is =
       load_sets ra rb (value_of t) _ r v (λ z. true≢false (sym (eq-eqb ra 31 z) ∙ e)) refl h _ _ refl refl is
 
+  lda_holds :
+      (ra rb : ℕ) (g : Region) (x r : ℕ) (v : Value) (b : Bool) → (ra == 31) ≡ b →
+      effect_ends (cond (b || (false && (rb == 31))) (Set ra (Ptr g x)) (cond (value_eq (read_reg s.regs rb) (Gp (c.table at.obj))) (Set ra (Ptr g x)) StepObserves)) ≡ false →
+      cond b (k r) (cond (ra == r) (Some (Ptr g x)) (cond (rb == r) (Some (Gp (c.table at.obj))) (k r))) ≡ Some v →
+      read_reg (after s at (cond (b || (false && (rb == 31))) (Set ra (Ptr g x)) (cond (value_eq (read_reg s.regs rb) (Gp (c.table at.obj))) (Set ra (Ptr g x)) StepObserves))).regs r ≡ v
+  lda_holds ra rb g x r v true e h is = by_own (ra == r) refl
+    where
+      by_own : (b : Bool) → (ra == r) ≡ b → read_reg (write_reg s.regs ra (Ptr g x)) r ≡ v
+      by_own false n = unwritten s.regs ra (Ptr g x) r (λ z. true≢false (sym (eq-eqb ra r z) ∙ n)) ∙ holds r v is
+      by_own true n =
+          let i : r ≡ 31 = sym (eqb-true ra r n) ∙ eqb-true ra 31 e in
+          subst (λ (y : ℕ). read_reg (write_reg s.regs ra (Ptr g x)) y ≡ v) (sym i) (subst (λ (y : ℕ). read_reg s.regs y ≡ v) i (holds r v is))
+  lda_holds ra rb g x r v false e h is = load_sets ra rb (Ptr g x) _ r v (λ z. true≢false (sym (eq-eqb ra 31 z) ∙ e)) refl h _ _ refl refl is
+
   other_holds : (a : Act) (r : ℕ) (v : Value) → cond (has (act_writes a) r) None (k r) ≡ Some v → read_reg (after s at (act_effect c s at a)).regs r ≡ v
   other_holds a r v is = by_case (has (act_writes a) r) refl is
     where
@@ -73,7 +89,9 @@ module _ (c : Script) (s : SymState) (at : Place) (k : Values) (holds : HoldsVal
   loaded_holds (GpHi ra rb base) r v h is = other_holds (GpHi ra rb base) r v is
   loaded_holds (GpLo ra rb hi) r v h is = other_holds (GpLo ra rb hi) r v is
   loaded_holds (To op ra q) r v h is = other_holds (To op ra q) r v is
-  loaded_holds (AddrLda ra rb t) r v h is = other_holds (AddrLda ra rb t) r v is
+  loaded_holds (AddrLda ra rb (target.Ptr g x)) r v h is = lda_holds ra rb g x r v _ refl h is
+  loaded_holds (AddrLda ra rb (target.Num n)) r v h is = other_holds (AddrLda ra rb (target.Num n)) r v is
+  loaded_holds (AddrLda ra rb (target.Code q)) r v h is = other_holds (AddrLda ra rb (target.Code q)) r v is
   loaded_holds (AddrHi ra rb t) r v h is = other_holds (AddrHi ra rb t) r v is
   loaded_holds (UseLo i hi t) r v h is = other_holds (UseLo i hi t) r v is
   loaded_holds (UseGp i gp t) r v h is = other_holds (UseGp i gp t) r v is

@@ -2,9 +2,10 @@
 use Rattle.std.specs.Prelude.{◌≡◌, ℕ, ◌==◌, if◌then◌else◌, Option, Some, None}
 use Rattle.om_value.specs.declared.value.Place.{Place}
 use Rattle.om_value.specs.declared.value.Value.{Value}
-use Rattle.om_value.specs.declared.value.Value.TheVariants.{Gp}
+use Rattle.om_value.specs.declared.value.Value.TheVariants.{Ptr, Gp}
+use Rattle.om_value.specs.declared.value.Target.TheVariants as target
 use Rattle.om_value.specs.Lift.{value_of}
-use Rattle.om_prog.specs.Act.{Act, Lit, Word, Script, act_writes}
+use Rattle.om_prog.specs.Act.{Act, Lit, AddrLda, Word, Script, act_writes}
 use Rattle.om_prog.specs.Step.{SymState, read_reg}
 use Rattle.om_prog.specs.Flow.{GoesTo}
 use Rattle.om_prog.specs.Facts.{has}
@@ -19,6 +20,8 @@ no_values r = None
 abbrev pub loaded : Script → Place → Act → Values → Values
 loaded c at (Lit ra rb t) k r =
     if ra == 31 then k r else if ra == r then Some (value_of t) else if rb == r then Some (Gp (c.table at.obj)) else k r
+loaded c at (AddrLda ra rb (target.Ptr g x)) k r =
+    if ra == 31 then k r else if ra == r then Some (Ptr g x) else if rb == r then Some (Gp (c.table at.obj)) else k r
 loaded c at a k r = if has (act_writes a) r then None else k r
 
 pub record ValueFlows (c : Script) (K At : Place → Type 0) (known : Place → Values) : Type 0 where

@@ -13,14 +13,12 @@ mod laws;
 mod making;
 mod program;
 mod region;
-#[cfg(test)]
-mod tests;
 mod words;
 
 pub use errors::ProgErr;
 pub use item::{Field, Item, Role};
 pub use laws::{
-    codes_stay, effects_depend_on_reads, same_words_same_run, steps_lead,
+    codes_stay, effects_depend_on_reads, retabled_runs, same_words_same_run, steps_lead,
     words_write_their_registers,
 };
 pub use program::Program;

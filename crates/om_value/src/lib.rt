@@ -6,8 +6,6 @@ mod kinds;
 mod lifting;
 mod rules;
 mod same;
-#[cfg(test)]
-mod tests;
 mod value;
 
 pub use lifting::{lift, lift_add, lift_cond};

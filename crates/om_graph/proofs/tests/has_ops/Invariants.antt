@@ -1,6 +1,0 @@
-use Rattle.std.proofs.Common.{IsTrue, IfSome}
-use Rattle.om_graph.specs.View.{is_live_op}
-use Rattle.om_graph.proofs.tests.has_ops.Given as goal
-
-abbrev pub invariant-loop-picked : goal.invariant-loop-picked
-invariant-loop-picked l = IfSome l.at (λ o. IsTrue (is_live_op l.graph o))
