@@ -5,4 +5,4 @@ pub mod Lends
 pub mod LendsSlot
 pub mod Linked
 pub mod Lists
-pub mod Vacant
+pub mod Narrow

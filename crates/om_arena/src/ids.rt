@@ -75,6 +75,13 @@ impl<T> Id<T> {
         self.key
     }
 
+    /// The id's number. While the id is live no other has it.
+    pub fn number(self) -> usize
+        ensures { result ≡ self }
+    {
+        self.key as usize
+    }
+
     pub(crate) fn of_key(key: MaybeKey) -> Option<Id<T>>
         ensures { result ≡ key }
     {

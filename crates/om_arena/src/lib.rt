@@ -11,8 +11,6 @@ mod ids;
 mod keys;
 mod links;
 mod slots;
-#[cfg(test)]
-mod tests;
 
 pub use arena::Arena;
 pub use causes::NoMemory;

@@ -1,50 +1,47 @@
-//! Values under keys of 32 bits, in one piece of memory.
-ghost use Rattle.std.specs.Prelude.{◌≡◌, ◌+◌, ◌<◌, ◌≤◌, [], Some, None, IsSome, OnOk, slice_set};
+//! Values under keys of 32 bits, in one slab.
+ghost use Rattle.std.specs.Prelude.{◌≡◌, ◌+◌, ◌<◌, ◌≤◌, [], map, Some, None, is_some, IsSome, IsTrue, IsFalse, OnOk, slice_set};
 ghost use Rattle.std.specs.Borrow.{Lends, sem};
+ghost use Rattle.slab.specs.Slab.{HasRoomFor as HasSlabRoomFor};
 ghost use Rattle.om_arena.specs.Keyed.{key_count, get, live_count, HasRoomFor, Updates};
-ghost use Rattle.om_arena.specs.Vacant.{held};
+ghost use Rattle.om_arena.specs.Narrow.{held, IsNarrow, HasNarrowRoom, SameFound};
 
 use crate::causes::NoMemory;
+use slab::Slab;
 use std::alloc::Global;
 use std::marker::Model;
-use std::mem;
 
 // How many keys there are, and how many lists.
 pub(crate) const KEYS: usize = u32::MAX as usize;
 
-// What stands under a key: a value, or none and the key of the next vacant slot.
+// What stands under a key of the slab: a value, or none for ever, since the key has more than 32 bits.
 #[derive(Drop)]
 enum Slot<X> {
-    Vacant(Option<u32>),
-    Occupied(X),
+    Barred,
+    Held(X),
 }
 
 // Values under their keys. A key keeps its value until that value is removed.
 #[derive(Drop)]
 pub(crate) struct Slots<X> {
-    slots: Vec<Slot<X>>,
-    // How many slots are occupied.
-    live: usize,
-    // The key of the first vacant slot, if there is one.
-    vacant: Option<u32>,
+    slab: Slab<Slot<X>>,
 }
 
 impl<X> Model for Slots<X> {
-    ghost use Rattle.std.specs.Prelude.{map, min, vec_capacity};
+    ghost use Rattle.std.specs.Prelude.{map, min};
     ghost use Rattle.om_arena.specs.Keyed.{Keyed, keyed_code, key_count};
 
     ghost Value = { Keyed X };
 
     ghost coded = { keyed_code X.code };
 
-    ghost use Rattle.om_arena.specs.Vacant.{held, IsSound};
+    ghost use Rattle.om_arena.specs.Narrow.{found, IsNarrow};
 
     ghost view = { λ s. record {
-      slots = map held s.slots.items;
-      capacity = min (vec_capacity s.slots) key_count;
+      slots = map found s.slab.slots;
+      capacity = min s.slab.capacity key_count;
     } };
 
-    ghost invariant = { λ s. IsSound s.slots.items s.live s.vacant };
+    ghost invariant = { λ s. IsNarrow s.slab.slots };
 }
 
 impl<X> Slot<X> {
@@ -52,13 +49,40 @@ impl<X> Slot<X> {
 
     fn value_mut(&mut self) -> &mut X
         requires { IsSome (held self.old) }
-        ensures* lends { sem 𝓛 (Lends (the_row X.row) X.row self.entry result Slot.Occupied) }
+        ensures* lends { sem 𝓛 (Lends (the_row X.row) X.row self.entry result Slot.Held) }
         ensures value { held self.old ≡ Some result.now }
     {
         match self {
-            Slot::Occupied(value) => value,
-            Slot::Vacant(_) => unreachable!(),
+            Slot::Held(value) => value,
+            Slot::Barred => unreachable!(),
         }
+    }
+}
+
+// Whether there is room and the next key has more than 32 bits.
+fn is_next_wide<X>(slab: &Slab<Slot<X>>) -> bool
+    requires narrow { IsNarrow slab.now.slots }
+    requires room { HasNarrowRoom slab.now }
+    ensures room { HasSlabRoomFor slab.now 1 }
+    ensures fits { IsFalse result → slab.now.vacant_key < key_count }
+    ensures wide { IsTrue result → key_count ≤ slab.now.vacant_key }
+{
+    slab.len() < slab.capacity() && slab.vacant_key() >= KEYS
+}
+
+// Bars keys of more than 32 bits until the next one has no more. The slab gives out low keys first, so there
+// are none; but its contract bounds a key by the capacity alone.
+fn bar_wide_keys<X>(slab: &mut Slab<Slot<X>>)
+    requires narrow { IsNarrow slab.old.slots }
+    requires room { HasNarrowRoom slab.old }
+    ensures narrow { IsNarrow slab.new.slots }
+    ensures room { HasSlabRoomFor slab.new 1 }
+    ensures fits { slab.new.vacant_key < key_count }
+    ensures capacity { slab.new.capacity ≡ slab.old.capacity }
+    ensures same { SameFound slab.old.slots slab.new.slots }
+{
+    while is_next_wide(slab) {
+        slab.insert_reserved(Slot::Barred);
     }
 }
 
@@ -71,9 +95,7 @@ impl<X> Slots<X> {
         ensures capacity { result.capacity ≡ 0 }
     {
         Slots {
-            slots: Vec::new(alloc),
-            live: 0,
-            vacant: None,
+            slab: Slab::new(alloc),
         }
     }
 
@@ -83,18 +105,17 @@ impl<X> Slots<X> {
         ensures slots { self.new.slots ≡ self.old.slots }
         ensures capacity { self.old.capacity ≤ self.new.capacity }
     {
-        if n > (KEYS - self.live) as u64 {
+        let most = KEYS as u64;
+        if n > most || self.slab.len() as u64 > most - n {
             return Err(NoMemory);
         }
-        let vacant = self.slots.len() - self.live;
-        let more = (n as usize).saturating_sub(vacant);
-        match self.slots.reserve(more) {
+        match self.slab.reserve(n as usize) {
             Ok(()) => Ok(()),
             Err(_) => Err(NoMemory),
         }
     }
 
-    // Stores `value` in the first vacant slot, or in a new one where none is vacant.
+    // Stores `value` in a vacant slot.
     pub(crate) fn insert(&mut self, value: X) -> u32
         requires { HasRoomFor self.old 1 }
         ensures key { result < key_count }
@@ -103,20 +124,11 @@ impl<X> Slots<X> {
         ensures capacity { self.new.capacity ≡ self.old.capacity }
         ensures count { live_count self.new ≡ live_count self.old + 1 }
     {
-        self.live += 1;
-        let Some(key) = self.vacant else {
-            let key = self.slots.len() as u32;
-            self.slots.push_reserved(Slot::Occupied(value));
-            return key;
-        };
-        match mem::replace(&mut self.slots[key as usize], Slot::Occupied(value)) {
-            Slot::Vacant(next) => self.vacant = next,
-            Slot::Occupied(_) => unreachable!(),
-        }
-        key
+        bar_wide_keys(&mut self.slab);
+        self.slab.insert_reserved(Slot::Held(value)) as u32
     }
 
-    // Takes the value under `key` out. Its slot becomes the first vacant one.
+    // Takes the value under `key` out. Its slot is vacant again.
     pub(crate) fn remove(&mut self, key: u32) -> X
         requires { IsSome (get self.old key) }
         ensures value { get self.old key ≡ Some result }
@@ -124,14 +136,9 @@ impl<X> Slots<X> {
         ensures capacity { self.new.capacity ≡ self.old.capacity }
         ensures count { live_count self.new + 1 ≡ live_count self.old }
     {
-        let vacant = Slot::Vacant(self.vacant);
-        match mem::replace(&mut self.slots[key as usize], vacant) {
-            Slot::Occupied(value) => {
-                self.live -= 1;
-                self.vacant = Some(key);
-                value
-            }
-            Slot::Vacant(_) => unreachable!(),
+        match self.slab.remove(key as usize) {
+            Slot::Held(value) => value,
+            Slot::Barred => unreachable!(),
         }
     }
 
@@ -141,9 +148,9 @@ impl<X> Slots<X> {
         ensures key { key < key_count }
         ensures value { get self.now key ≡ Some result.now }
     {
-        match &self.slots[key as usize] {
-            Slot::Occupied(value) => value,
-            Slot::Vacant(_) => unreachable!(),
+        match &self.slab[key as usize] {
+            Slot::Held(value) => value,
+            Slot::Barred => unreachable!(),
         }
     }
 
@@ -153,6 +160,6 @@ impl<X> Slots<X> {
         ensures* writes_back { sem 𝓛 (lends_slot X.row self.entry key result) }
         ensures value { get self.old key ≡ Some result.now }
     {
-        self.slots[key as usize].value_mut()
+        self.slab[key as usize].value_mut()
     }
 }

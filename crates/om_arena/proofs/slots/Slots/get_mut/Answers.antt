@@ -1,20 +1,21 @@
-use Rattle.std.proofs.Common.{None, refl, sym, ap, ◌∙◌}
-use Rattle.std.proofs.lemmas.List.{map-set, get_or-map}
-use Rattle.std.proofs.lemmas.Option.{slice_get_within}
-use Rattle.om_arena.specs.Vacant.{held}
-use Rattle.om_arena.proofs.Vacancies.{occupied_at, sound_rewrite}
+use Rattle.std.proofs.Common.{Some, refl, ap, ◌∙◌, arith, rules}
+use Rattle.std.proofs.lemmas.List.{map-set}
+use Rattle.slab.proofs.SlabLemmas.{Updates-with_value}
+use Rattle.slab.specs.Slab.{with_value}
+use Rattle.om_arena.specs.Narrow.{found}
+use Rattle.om_arena.specs.declared.slots.Slot.TheVariants.{Held}
+use Rattle.om_arena.proofs.Narrow.{found_at, key_below, narrow_updated}
 use Rattle.om_arena.proofs.slots.Slots.get_mut.Goals as goal
 
 pub invariant_of-self-lent : goal.invariant_of-self-lent
 invariant_of-self-lent g c w =
-    let found = occupied_at c.self.inside.slots.items c.args.key (rw (← c.self.view_is) at c.requires) in
-    sound_rewrite c.self.inside.slots.items c.self.inside.live c.args.key c.self.inside.vacant found.0 w c.self.invariant found.1
+    let old = c.self.inside.slab in
+    let below = key_below old.slots c.args.key c.self.invariant (rw (← c.self.view_is) at c.requires) in
+    narrow_updated old (with_value old c.args.key (Held w)) c.args.key (Some (Held w)) (Updates-with_value old c.args.key (Held w) (search rules)) (λ _. refl) (λ beyond. absurd (omega (arith, beyond, below))) c.self.invariant
 
 pub returns : goal.returns
 returns g c =
-    let slots = c.self.inside.slots.items in
-    let found = occupied_at slots c.args.key (rw (← c.self.view_is) at c.requires) in
-    let value = get_or-map held slots c.args.key c.index_mut.result.now None (slice_get_within slots c.args.key _ found.1) in (
+    let slots = c.self.inside.slab.slots in (
       (refl, λ w. rw (← c.self.view_is, map-set)),
-      record { writes_back = tt; value = rw (← c.self.view_is) (value ∙ ap held (sym c.index_mut.ensures.value) ∙ c.value_mut.ensures.value) },
+      record { writes_back = tt; value = rw (← c.self.view_is) (found_at slots c.args.key ∙ ap found c.index_mut.ensures.value ∙ c.value_mut.ensures.value) },
     )

@@ -1,19 +1,13 @@
-use Rattle.std.proofs.Common.{arith}
+use Rattle.std.proofs.Common.{Some, refl, sym, ap, ◌∙◌, arith}
 use Rattle.std.proofs.lemmas.List.{map-set}
-use Rattle.om_arena.specs.declared.slots.Slot.TheVariants.{Vacant, Occupied}
-use Rattle.om_arena.proofs.Vacancies.{occupied_at, count_set, sound_vacate}
+use Rattle.om_arena.specs.Narrow.{found}
+use Rattle.om_arena.proofs.Narrow.{live_more}
 use Rattle.om_arena.proofs.slots.Slots.remove.Goals as goal
 
-pub invariant_of-self : goal.invariant_of-self
-invariant_of-self g c =
-    let found = occupied_at c.self.inside.slots.items c.args.key (rw (← c.self.view_is) at c.requires) in
-    rw c.replace.ensures.after (sound_vacate c.self.inside.slots.items c.self.inside.live c.args.key c.self.inside.vacant found.0 c.self.invariant found.1)
-
 pub returns-clause-slots : goal.returns-clause-slots
-returns-clause-slots g c = rw (← c.self.view_is, c.replace.ensures.after, map-set)
+returns-clause-slots g c = rw (← c.self.view_is, c.remove.ensures.slots, map-set) refl
 
 pub returns-clause-count : goal.returns-clause-count
 returns-clause-count g c =
-    let found = occupied_at c.self.inside.slots.items c.args.key (rw (← c.self.view_is) at c.requires) in
-    let counted = count_set c.self.inside.slots.items c.args.key (Occupied found.0) (Vacant c.self.inside.vacant) found.1 in
-    rw (← c.self.view_is, c.replace.ensures.after) (omega arith)
+    let more = live_more c.remove.new.self c.self.inside.slab c.args.key c.in-Held.value (ap found c.remove.ensures.updates.changed) (ap found (c.remove.ensures.value ∙ ap Some c.in-Held.is)) (λ k differs. sym (ap found (c.remove.ensures.updates.others k differs))) in
+    rw (← c.self.view_is) (omega (arith, more))

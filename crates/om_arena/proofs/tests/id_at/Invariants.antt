@@ -1,5 +1,0 @@
-use Rattle.om_arena.specs.Lists.{IsLive}
-use Rattle.om_arena.proofs.tests.id_at.Given as goal
-
-abbrev pub invariant-loop : goal.invariant-loop
-invariant-loop l = IsLive l.arena l.at
