@@ -1,0 +1,13 @@
+pub mod Reducing
+pub mod ByteUses
+pub mod Observed
+pub mod InGraph
+pub mod NoHalf
+pub mod OpStep
+pub mod KnownUses
+pub mod AddressSteps
+pub mod HalfWords
+pub mod HalfFlow
+pub mod EditedBlock
+pub mod FarStep
+pub mod Never

@@ -1,0 +1,3 @@
+pub mod Reduces
+pub mod Laws
+pub mod Halves

@@ -1,0 +1,13 @@
+pub mod Edges
+pub mod MaskSteps
+pub mod FactSteps
+pub mod Edits
+pub mod Forms
+pub mod Ends
+pub mod Drops
+pub mod Closed
+pub mod Entries
+pub mod Needs
+pub mod ToldAt
+pub mod Single
+pub mod Highs

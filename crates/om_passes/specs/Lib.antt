@@ -1,0 +1,9 @@
+pub mod AtPlaces
+pub mod Edit
+pub mod Blocks
+pub mod Far
+pub mod OneEdit
+pub mod Step
+pub mod Keeping
+pub mod Laws
+pub mod Rows

@@ -1,0 +1,9 @@
+pub mod Shrinking
+pub mod OneOrder
+pub mod FewerSlots
+pub mod Distances
+pub mod Arith
+pub mod Fits
+pub mod There
+pub mod Below
+pub mod Placed

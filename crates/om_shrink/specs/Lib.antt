@@ -1,0 +1,3 @@
+pub mod Shrinks
+pub mod Laws
+pub mod Placed
