@@ -1,0 +1,11 @@
+pub mod OfFlow
+pub mod Walking
+pub mod Doing
+pub mod OnEffects
+pub mod OnFilling
+pub mod OnLands
+pub mod LastWords
+pub mod Entering
+pub mod Holding
+pub mod ToFlow
+pub mod OfPrograms

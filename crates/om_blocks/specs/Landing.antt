@@ -1,0 +1,7 @@
+-- What holds of the kept blocks of some labels.
+use Rattle.std.specs.Prelude.{◌≡◌, ℕ, List}
+use Rattle.om_value.specs.declared.value.Place.{Place}
+use Rattle.om_graph.specs.View.{Block, GraphView, Has}
+
+pub record HoldsAt (g : GraphView) (P : ℕ → Type 0) (labels : List Place) : Type 0 where
+  pub each : (q : Place) (n : Block) → Has labels q → Has g.blocks n → n.label ≡ q → P n.id

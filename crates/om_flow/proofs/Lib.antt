@@ -1,0 +1,11 @@
+pub mod Among
+pub mod Spreading
+pub mod FactSolver
+pub mod Bits
+pub mod MaskSolver
+pub mod HubWalks
+pub mod Fields
+pub mod Plain
+pub mod Inside
+pub mod Chained
+pub mod Rows

@@ -1,0 +1,11 @@
+pub mod Edges
+pub mod Seen
+pub mod Hub
+pub mod Reverse
+pub mod Worklist
+pub mod Facts
+pub mod FactSteps
+pub mod Masks
+pub mod MaskSteps
+pub mod Chain
+pub mod Rows

@@ -1,0 +1,4 @@
+pub mod Exact
+pub mod OneTable
+pub mod Passing
+pub mod Rows
