@@ -1,19 +1,19 @@
 -- The instruction that is written for a kept word has one of the word's forms.
-use Rattle.std.proofs.Common.{◌≡◌, inl, ℕ, ◌+◌, ◌*◌, ◌/◌, ◌%◌, ◌<◌, Bool, true, false, cond, ◌==◌, List, [], ◌∷◌, ◌++◌, length, Option, Some, None, refl, ap, sym, subst, ◌∙◌, arith}
-use Rattle.std.specs.Prelude.{ℤ, pos, ◌+ℤ◌, ◌-ℤ◌, ◌*ℤ◌, slice_get, slice_index_or, option_and_then, is_some}
+use Rattle.std.proofs.Common.{◌≡◌, ℕ, ◌+◌, ◌*◌, ◌<◌, List, [], ◌∷◌, ◌++◌, length, Option, refl, ap, sym, subst, ◌∙◌, arith}
+use Rattle.std.specs.Prelude.{ℤ, pos, ◌+ℤ◌, ◌-ℤ◌, ◌*ℤ◌}
 use Rattle.std.proofs.lemmas.Int.{ints}
 use Rattle.om_isa.specs.declared.instr.BrOp.{BrOp}
 use Rattle.om_isa.specs.declared.instr.Instr.{Instr}
 use Rattle.om_isa.specs.declared.instr.Instr.TheVariants.{Mem, Jump, Branch, Alu, Cmov, Misc, Fnop, Halt, Callsys}
 use Rattle.om_isa.specs.declared.instr.MemOp.TheVariants.{Lda, Ldah, Ldq}
+use Rattle.om_isa.specs.Fields.{IsDisp}
 use Rattle.om_isa.specs.Words.{Encodes}
 use Rattle.om_value.specs.declared.value.Place.{Place}
 use Rattle.om_value.specs.declared.value.Target.{Target}
 use Rattle.om_value.specs.declared.value.Target.TheVariants as target
-use Rattle.om_prog.specs.declared.item.Item.{Item}
 use Rattle.om_prog.specs.Act as act
 use Rattle.om_prog.specs.Act.{Act, Word, base_of}
-use Rattle.om_prog.specs.View.{ProgramView, item_at, is_word}
+use Rattle.om_prog.specs.View.{ProgramView}
 use Rattle.om_graph.specs.declared.op.Op.{Op}
 use Rattle.om_graph.specs.declared.op.OpKind.{OpKind}
 use Rattle.om_graph.specs.declared.op.OpKind.TheVariants as op
@@ -23,21 +23,16 @@ use Rattle.om_graph.specs.View.{Block, GraphView, Has, ops_of}
 use Rattle.om_graph.specs.Run.{words, op_act, last_words}
 use Rattle.om_graph.specs.Form.{IsCondition, LastForm}
 use Rattle.om_graph.specs.Uses.{IsBaseUse}
-use Rattle.om_graph.specs.Index.{InReach, BranchInReach}
-use Rattle.om_graph.proofs.Labels.{in_all, has_in, has_label, append_right}
-use Rattle.om_graph.proofs.OfProgram.{words_in_place, index_below, count_is, map_length}
-use Rattle.om_graph.proofs.LiftedOf.{item_get}
+use Rattle.om_graph.proofs.Labels.{has_in, has_label}
+use Rattle.om_graph.proofs.OfProgram.{words_in_place}
 use Rattle.om_layout.specs.Layout.{LayoutView, position_of, gp_of, table_at, start_at}
-use Rattle.om_layout.specs.Order.{IsPlaceOf, words_before}
-use Rattle.om_layout.proofs.Sorted.{words_of}
 use Rattle.om_encode.specs.declared.highs.High.{High}
 use Rattle.om_encode.specs.Halves.{high_part, from_gp, from_base}
 use Rattle.om_encode.specs.Fields.{HasForm, HasUse, HasLda, IsFar}
-use Rattle.om_encode.specs.Fitting.{low_part, branch_disp}
+use Rattle.om_encode.specs.Fitting.{low_part, branch_disp, BranchFits}
 use Rattle.om_encode.specs.Encoded.{IsEncodable, Writes, WritesInstr, WritesIf}
 use Rattle.om_encode.specs.Written.{FitsBranch, FitsLast, IsOver, IsLda, IsInstrOf, AreHighs, behind, last_instr, cond_instr}
 use Rattle.om_encode.proofs.Fitted.{all_fit, op_fits, known, has_op, near_slotted, use_act, half_is, position_small}
-use Rattle.om_encode.proofs.Sound.{sound}
 
 slot_exact : (slot gp : ℕ) → pos gp +ℤ (pos slot -ℤ pos gp) ≡ pos slot
 slot_exact slot gp = omega (arith, ints)
@@ -141,28 +136,6 @@ append_nil : (xs : List ℕ) → xs ++ [] ≡ xs
 append_nil [] = refl
 append_nil (x ∷ xs) = ap (λ (l : List ℕ). x ∷ l) (append_nil xs)
 
--- a word of a text has a place
-pub place_of : (p : ProgramView) (g : GraphView) (l : LayoutView) → IsEncodable p g l → (q : Place) → is_word p q ≡ true → IsPlaceOf g.counts q
-place_of p g l c q e = by_item (item_at p q) refl e
-  where
-    by_text : (item : Item) (o : Option (List Item)) → slice_get p.texts q.obj ≡ o → item_at p q ≡ Some item → IsPlaceOf g.counts q
-    by_text item None f e = absurd (none_there (q.off % 4 == 0) (sym (ap (λ (o : Option (List Item)). cond (q.off % 4 == 0) (option_and_then (λ t. slice_get t (q.off / 4)) o) None) f) ∙ e))
-      where
-        none_there : (b : Bool) → cond b None None ≡ Some item → ⊥
-        none_there true e = cc
-        none_there false e = cc
-    by_text item (Some text) f e =
-        let i = item_get p q text item f e in
-        let n = ap (λ (xs : List ℕ). length xs) c.graph.counts ∙ map_length (λ (t : List Item). length t) p.texts in
-        let b = index_below p.texts q.obj text f in
-        let k = ap (λ (xs : List ℕ). slice_index_or xs q.obj 0) c.graph.counts ∙ count_is p.texts q.obj text f in
-        let j = index_below text (q.off / 4) item i.0 in
-        record { object = omega (arith, n, b); aligned = i.1; inside = omega (arith, k, j) }
-
-    by_item : (o : Option Item) → item_at p q ≡ o → is_some o ≡ true → IsPlaceOf g.counts q
-    by_item None e h = cc
-    by_item (Some item) e h = by_text item (slice_get p.texts q.obj) refl e
-
 module _ (p : ProgramView) (g : GraphView) (l : LayoutView) (c : IsEncodable p g l) where
   pub word_object : (w : Word) → Has (words g) w → w.at.obj < length g.counts
   word_object w h =
@@ -172,51 +145,31 @@ module _ (p : ProgramView) (g : GraphView) (l : LayoutView) (c : IsEncodable p g
       let e = (places.words i.block w i.among i.word).object in
       omega (arith, q, e)
 
-  pub word_place : (w : Word) → Has (words g) w → IsPlaceOf g.counts w.at
-  word_place w h =
-      let are = words_of p c.program g c.graph in
-      let k = are.inside w h in
-      record { object = word_object w h; aligned = are.aligned w h; inside = omega (arith, k) }
+  branch_fits : (at q : Place) → IsDisp (branch_disp l at q) → FitsBranch l at q
+  branch_fits at q d = record { at_position = position_small p g l c at; to_position = position_small p g l c q; disp = d }
 
-  -- a word has the number of the words before it
-  pub at_word : (w : Word) → Has (words g) w → position_of l w.at ≡ words_before (words g) w.at
-  at_word w h = c.layout.positions w.at (word_place w h)
+  pub last_fits : (b : Block) → Has g.blocks b → FitsLast l b.last
+  last_fits b among = by_last b.last (c.branches.lasts b among) (c.graph.form.lasts b among)
+    where
+      by_cond : (at : Place) (i : Instr) (q : Place) → IsDisp (branch_disp l at q) → IsCondition i → FitsLast l (last.Cond at i q)
+      by_cond at (Branch o ra d) q r f = branch_fits at q r
+      by_cond at (Mem o ra rb d) q r f = absurd f
+      by_cond at (Jump k ra rb h) q r f = absurd f
+      by_cond at (Alu o ra rb rc) q r f = absurd f
+      by_cond at (Cmov k ra rb rc) q r f = absurd f
+      by_cond at (Misc o ra rb) q r f = absurd f
+      by_cond at Fnop q r f = absurd f
+      by_cond at Halt q r f = absurd f
+      by_cond at Callsys q r f = absurd f
 
-  branch_fits : (at : Place) (o : BrOp) (ra : ℕ) (q : Place) → Has (words g) (record { at = at; act = act.To o ra q }) → InReach g.counts at q → FitsBranch l at q
-  branch_fits at o ra q h r = record {
-    at_position = position_small p g l c at;
-    to_position = position_small p g l c q;
-    disp =
-        (all_fit p g l c).branches at q (word_place (record { at = at; act = act.To o ra q }) h)
-        (place_of p g l c q (sound p c.program g c.graph (record { at = at; act = act.To o ra q }) h)) r;
-  }
-
-  module _ (b : Block) (among : Has g.blocks b) where
-    last_has : (w : Word) → Has (last_words b.last) w → Has (words g) w
-    last_has w h = in_all g.blocks b w among (append_right _ (last_words b.last) w h)
-
-    pub last_fits : FitsLast l b.last
-    last_fits = by_last b.last (last_has) (c.reach.lasts b among) (c.graph.form.lasts b among)
-      where
-        by_cond : (at : Place) (i : Instr) (q : Place) → ((w : Word) → Has (last_words (last.Cond at i q)) w → Has (words g) w) → InReach g.counts at q → IsCondition i → FitsLast l (last.Cond at i q)
-        by_cond at (Branch o ra d) q has r f = branch_fits at o ra q (has _ (inl refl)) r
-        by_cond at (Mem o ra rb d) q has r f = absurd f
-        by_cond at (Jump k ra rb h) q has r f = absurd f
-        by_cond at (Alu o ra rb rc) q has r f = absurd f
-        by_cond at (Cmov k ra rb rc) q has r f = absurd f
-        by_cond at (Misc o ra rb) q has r f = absurd f
-        by_cond at Fnop q has r f = absurd f
-        by_cond at Halt q has r f = absurd f
-        by_cond at Callsys q has r f = absurd f
-
-        by_last : (x : Last) → ((w : Word) → Has (last_words x) w → Has (words g) w) → BranchInReach g.counts x → LastForm x → FitsLast l x
-        by_last last.Fall has r f = tt
-        by_last last.Off has r f = tt
-        by_last (last.Br at o ra q) has r f = branch_fits at o ra q (has _ (inl refl)) r
-        by_last (last.Cond at i q) has r f = by_cond at i q has r f
-        by_last (last.Call at o ra q) has r f = branch_fits at o ra q (has _ (inl refl)) r
-        by_last (last.CallBy at i) has r f = tt
-        by_last (last.JumpBy at i) has r f = tt
+      by_last : (x : Last) → BranchFits l x → LastForm x → FitsLast l x
+      by_last last.Fall r f = tt
+      by_last last.Off r f = tt
+      by_last (last.Br at o ra q) r f = branch_fits at q r
+      by_last (last.Cond at i q) r f = by_cond at i q r f
+      by_last (last.Call at o ra q) r f = branch_fits at q r
+      by_last (last.CallBy at i) r f = tt
+      by_last (last.JumpBy at i) r f = tt
 
 module _ (p : ProgramView) (g : GraphView) (l : LayoutView) where
   branch_formed : (at : Place) (o : BrOp) (ra : ℕ) (q : Place) (w : ℕ) → Encodes w (Branch o ra (branch_disp l at q)) → HasForm p g l at (act.To o ra q) w

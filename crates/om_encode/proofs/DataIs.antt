@@ -7,12 +7,14 @@ use Rattle.om_prog.specs.declared.region.RegionInit.{RegionInit}
 use Rattle.om_prog.specs.View.{ProgramView, word_count}
 use Rattle.om_prog.specs.Valid.{IsProgram}
 use Rattle.om_graph.specs.View.{GraphView}
+use Rattle.om_graph.specs.Kept.{Comes}
 use Rattle.om_graph.specs.OfProgram.{IsGraphOf}
 use Rattle.om_graph.proofs.OfProgram.{map_length}
 use Rattle.om_image.specs.declared.image.Image.{Image}
 use Rattle.om_image.specs.declared.map.MapObj.{MapObj}
 use Rattle.om_layout.specs.Layout.{LayoutView, data_base, code_at, region_at, gp_of, table_at}
-use Rattle.om_layout.specs.Order.{tables_end, regions_end, IsLayoutOf}
+use Rattle.om_layout.specs.Facts.{LaysOut}
+use Rattle.om_layout.specs.Order.{tables_end, regions_end}
 use Rattle.om_layout.specs.Limits.{IsWithinLimits}
 use Rattle.om_layout.proofs.Limits.{stays}
 use Rattle.om_encode.specs.Data.{DataIsTrue, HasWidths, data_byte, region_byte, map_table, map_region, data_given}
@@ -71,7 +73,7 @@ pub record IsDataOf (p : ProgramView) (l : LayoutView) (i : Image) : Type 0 wher
   pub entry : i.entry ≡ code_at l p.entry
   pub gp : i.gp ≡ gp_of l p.entry.obj
 
-module _ (p : ProgramView) (g : GraphView) (l : LayoutView) (prog : IsProgram p) (of : IsGraphOf p g) (limits : IsWithinLimits p) (lay : IsLayoutOf p g l) where
+module _ (p : ProgramView) (g : GraphView) (l : LayoutView) (prog : IsProgram p) (of : IsGraphOf p g) (limits : IsWithinLimits p) (lay : LaysOut p g l (Comes g)) where
   pub has_data : HasData l
   has_data = record {
     tables = lay.data_part.tables;

@@ -1,10 +1,9 @@
--- Slots, pairs, branches and distances fit.
+-- Slots, pairs and distances fit.
 use Rattle.std.proofs.Common.{◌≡◌, ℕ, ◌+◌, ◌-◌, ◌*◌, ◌<◌, ◌≤◌, true, ◌&&◌, nat_lt, length, Option, Some, None, refl, ap, sym, subst, arith}
 use Rattle.std.specs.Prelude.{pos, ◌-ℤ◌, All, FitsSigned}
 use Rattle.std.specs.Int.{w16, w32}
 use Rattle.std.proofs.lemmas.Int.{ints}
 use Rattle.std.proofs.lemmas.Bool.{leb-true}
-use Rattle.om_isa.specs.Fields.{IsDisp}
 use Rattle.om_value.specs.declared.value.Place.{Place}
 use Rattle.om_value.specs.declared.value.Region.{Region}
 use Rattle.om_value.specs.declared.value.Region.TheVariants.{Sec, Common, Stack, Heap}
@@ -18,16 +17,14 @@ use Rattle.om_prog.specs.declared.region.RegionInit.{RegionInit}
 use Rattle.om_prog.specs.View.{ProgramView, init_of, size_or_none}
 use Rattle.om_prog.specs.Valid.{IsProgram, is_given, width_of, is_near_target, is_up_to}
 use Rattle.om_graph.specs.View.{GraphView}
+use Rattle.om_graph.specs.Kept.{Comes}
 use Rattle.om_graph.specs.Run.{words}
 use Rattle.om_graph.specs.OfProgram.{IsGraphOf}
 use Rattle.om_lockstep.proofs.Small.{and_true, cond_some, same_region}
 use Rattle.om_layout.specs.Layout.{LayoutView, start_at, start_or, gp_at, gp_of, table_at, code_at, address_of, position_of}
-use Rattle.om_layout.specs.Order.{IsLayoutOf, words_before}
+use Rattle.om_layout.specs.Facts.{LaysOut}
 use Rattle.om_layout.specs.Limits.{IsWithinLimits, StaysInLimits}
 use Rattle.om_layout.proofs.Limits.{stays}
-use Rattle.om_layout.proofs.Natural.{lays_out}
-use Rattle.om_layout.proofs.Sorted.{words_of}
-use Rattle.om_layout.proofs.Counting.{reach}
 use Rattle.om_encode.specs.Halves.{high_part}
 use Rattle.om_encode.specs.Data.{DistanceFits}
 use Rattle.om_encode.specs.Fields.{Splits}
@@ -59,7 +56,7 @@ given_is (Common n) e = tt
 given_is Stack e = cc
 given_is Heap e = cc
 
-module _ (p : ProgramView) (g : GraphView) (l : LayoutView) (prog : IsProgram p) (of : IsGraphOf p g) (limits : IsWithinLimits p) (lay : IsLayoutOf p g l) where
+module _ (p : ProgramView) (g : GraphView) (l : LayoutView) (prog : IsProgram p) (of : IsGraphOf p g) (limits : IsWithinLimits p) (lay : LaysOut p g l (Comes g)) where
   pub inside : StaysInLimits g l
   inside = stays p prog g of limits l lay.data_part
 
@@ -67,7 +64,7 @@ module _ (p : ProgramView) (g : GraphView) (l : LayoutView) (prog : IsProgram p)
   sizes = sizes_match p l prog.once lay.data_part.extents
 
   pub most : (q : Place) → position_of l q ≤ length (words g)
-  most q = (lays_out p prog g of l lay (λ q. Unit {0})).words.most q
+  most q = lay.words.most q
 
   pub code_low : (q : Place) → (0x120000000 ≤ code_at l q) × (code_at l q ≤ 0x121000000)
   code_low q = let a = most q in let b = inside.words in (omega arith, omega (arith, a, b))
@@ -132,13 +129,6 @@ module _ (p : ProgramView) (g : GraphView) (l : LayoutView) (prog : IsProgram p)
     distances =
         all_of (λ (q : RegionInit). All (λ (z : Field). DistanceFits l z.value) q.fields) p.regions
         (λ k q h. all_of (λ (z : Field). DistanceFits l z.value) q.fields (λ j z m. value_fits z.value z.width ((prog.regions.each k q h).fields.each j z m).width));
-    branches =
-        λ at q here there r.
-        let a = lay.positions at here in
-        let b = lay.positions q there in
-        let d = reach g.counts (words g) (words_of p prog g of) at q r in
-        subst (λ (m : ℕ). IsDisp ((pos (position_of l q) -ℤ pos m) -ℤ pos 1)) (sym a)
-        (subst (λ (n : ℕ). IsDisp ((pos n -ℤ pos (words_before (words g) at)) -ℤ pos 1)) (sym b) d);
   }
 
 pub fits_in_every_layout : FitsInEveryLayout

@@ -2,11 +2,11 @@
 use Rattle.om_prog.specs.View.{ProgramView}
 use Rattle.om_prog.specs.Valid.{IsProgram}
 use Rattle.om_graph.specs.View.{GraphView}
-use Rattle.om_graph.specs.Kept.{KeptInBlocks}
+use Rattle.om_graph.specs.Kept.{Comes, KeptInBlocks}
 use Rattle.om_graph.specs.OfProgram.{IsGraphOf}
 use Rattle.om_image.specs.Valid.{IsValidImage}
 use Rattle.om_layout.specs.Layout.{LayoutView}
-use Rattle.om_layout.specs.Order.{IsLayoutOf}
+use Rattle.om_layout.specs.Facts.{LaysOut}
 use Rattle.om_layout.specs.Limits.{IsWithinLimits}
 use Rattle.om_encode.specs.declared.data_part.DataPart.{DataPart}
 use Rattle.om_encode.specs.declared.text_part.TextPart.{TextPart}
@@ -14,7 +14,7 @@ use Rattle.om_encode.specs.Data.{DataIsTrue}
 use Rattle.om_encode.specs.DataBytes.{data_image}
 use Rattle.om_encode.specs.Encoded.{IsTextOf, AreMapWords}
 use Rattle.om_encode.specs.Joined.{joined}
-use Rattle.om_encode.specs.TrueMap.{IsTrueMap}
+use Rattle.om_encode.specs.TrueMap.{IsMapIn}
 use Rattle.om_encode.proofs.Carried.{fields_true, text_true}
 use Rattle.om_encode.proofs.Valid.{true_maps_are_valid}
 
@@ -37,15 +37,12 @@ module _ (p : ProgramView) (g : GraphView) (l : LayoutView) (d : DataPart) (t : 
     gp = h.gp;
   }
 
-  pub map_joined : IsLayoutOf p g l → DataIsTrue p g l (data_image d) → IsTextOf p g l t.text → AreMapWords p g l t.words → IsTrueMap p g l (joined d t)
-  map_joined lay data_is text_is words = record {
-    layout = lay;
-    map = record {
-      data_part = data_joined data_is;
-      text = text_true p g l (joined d t) text_is words;
-      fields = fields_true p g l (joined d t) text_is;
-    };
+  pub map_joined : DataIsTrue p g l (data_image d) → IsTextOf p g l t.text → AreMapWords p g l t.words → IsMapIn p g l (joined d t)
+  map_joined data_is text_is words = record {
+    data_part = data_joined data_is;
+    text = text_true p g l (joined d t) text_is words;
+    fields = fields_true p g l (joined d t) text_is;
   }
 
-  pub valid_joined : IsProgram p → IsGraphOf p g → KeptInBlocks g → IsWithinLimits p → IsTrueMap p g l (joined d t) → IsValidImage (joined d t)
-  valid_joined prog of kept limits m = true_maps_are_valid p g l (joined d t) prog of kept limits m
+  pub valid_joined : IsProgram p → IsGraphOf p g → KeptInBlocks g → IsWithinLimits p → LaysOut p g l (Comes g) → IsMapIn p g l (joined d t) → IsValidImage (joined d t)
+  valid_joined prog of kept limits lay m = true_maps_are_valid p g l (joined d t) prog of kept limits (record { layout = lay; map = m })

@@ -11,6 +11,7 @@ pub mod Sentences
 pub mod Linked
 pub mod Fitting
 pub mod Rows
+pub mod TurnedRows
 pub mod Readable
 pub mod Targets
 pub mod Valid
@@ -27,5 +28,8 @@ pub mod Fitted
 pub mod Answered
 pub mod TextWalks
 pub mod MapWalks
+pub mod PutWords
+pub mod Apart
+pub mod Reached
 pub mod Carried
 pub mod Joined

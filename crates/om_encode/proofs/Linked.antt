@@ -18,7 +18,7 @@ use Rattle.om_graph.proofs.LiftedRun.{lifted_run}
 use Rattle.om_image.specs.declared.image.Image.{Image}
 use Rattle.om_layout.specs.Layout.{LayoutView}
 use Rattle.om_encode.specs.Halves.{addresses_of}
-use Rattle.om_encode.specs.Headline.{Follows, IsLinked, LinkedImagesRun}
+use Rattle.om_encode.specs.Headline.{Follows, IsRewritten, LinkedImagesRun}
 use Rattle.om_encode.proofs.Whole.{true_maps_run}
 use Rattle.om_encode.proofs.Sentences.{counted_gives_headline, follows_and_runs}
 
@@ -43,7 +43,7 @@ left_length g (p ∷ ps) = by_test (is_left g (left g ps) p) (left_length g ps)
     by_test true h = omega arith
     by_test false h = omega arith
 
-module _ (p : ProgramView) (lifted g : GraphView) (l : LayoutView) (i : Image) (k : IsLinked p lifted g l i) (input : List ℕ) where
+module _ (p : ProgramView) (lifted g : GraphView) (l : LayoutView) (i : Image) (k : IsRewritten p lifted g l i) (input : List ℕ) where
   abbrev counted : ℕ → ℕ
   counted n = length (left_in g (graph_script p lifted) input n)
 

@@ -1,36 +1,36 @@
 -- The words of a map that are written text by text, and that they are what a true map has.
-use Rattle.std.proofs.Common.{◌≡◌, inl, inr, ℕ, zero, suc, ◌+◌, ◌*◌, ◌/◌, ◌%◌, ◌<◌, ◌≤◌, min, Bool, true, false, cond, ◌==◌, nat_lt, List, [], ◌∷◌, ◌++◌, length, take, Option, Some, None, refl, ap, sym, subst, ◌∙◌, arith, lit<, ◌^◌, append_assoc}
+use Rattle.std.proofs.Common.{◌≡◌, inl, inr, ℕ, zero, suc, ◌+◌, ◌*◌, ◌/◌, ◌%◌, ◌<◌, ◌≤◌, min, Bool, true, false, cond, ◌||◌, ◌==◌, List, [], ◌∷◌, ◌++◌, length, take, Option, Some, None, refl, ap, sym, ◌∙◌, arith, lit<, ◌^◌, append_assoc}
 use Rattle.std.specs.Prelude.{map, sum, find, is_some, slice_get, slice_index_or, unwrap_or, option_and_then}
-use Rattle.std.proofs.lemmas.Bool.{eq-eqb, lt-ltb, ltb-true}
-use Rattle.std.proofs.lemmas.Bool.Decides.{nat_tests}
+use Rattle.std.proofs.Math.Decide.{dec_le}
+use Rattle.std.proofs.lemmas.Bool.{eq-eqb, eqb-true}
 use Rattle.std.proofs.lemmas.List.{take_all}
 use Rattle.std.proofs.lemmas.List.Sums.{sum_by-cons}
 use Rattle.om_value.specs.declared.value.Place.{Place}
 use Rattle.om_value.specs.Same.{place_eq}
 use Rattle.om_prog.specs.declared.item.Item.{Item}
 use Rattle.om_prog.specs.Act.{Word}
-use Rattle.om_prog.specs.Step.{next_place}
 use Rattle.om_prog.specs.View.{ProgramView, item_at, text_of, word_count}
 use Rattle.om_prog.specs.Valid.{IsProgram}
 use Rattle.om_prog.proofs.Found.{take_step}
-use Rattle.om_graph.specs.View.{GraphView, Has, place_lt}
+use Rattle.om_graph.specs.View.{GraphView, Has}
 use Rattle.om_graph.specs.Run.{words}
+use Rattle.om_graph.specs.Kept.{Comes}
 use Rattle.om_graph.specs.LeftIn.{is_kept}
 use Rattle.om_graph.specs.Index.{index_of}
-use Rattle.om_graph.proofs.Labels.{same_place}
+use Rattle.om_graph.proofs.Labels.{same_place, equal_places, self_eq}
 use Rattle.om_graph.proofs.LiftedOf.{item_get}
 use Rattle.om_graph.proofs.OfProgram.{index_below, count_is}
 use Rattle.om_image.specs.declared.map.MapWord.{MapWord}
 use Rattle.om_layout.specs.Layout.{LayoutView, position_of}
-use Rattle.om_layout.specs.Order.{IsPlaceOf, words_before}
-use Rattle.om_layout.proofs.Placing.{next_before}
-use Rattle.om_layout.proofs.Sorted.{words_of}
+use Rattle.om_layout.proofs.Sorted.{AreWordsOf, words_of}
 use Rattle.om_encode.specs.Text.{map_word}
-use Rattle.om_encode.specs.Encoded.{IsEncodable, AreMapWords, told_word, told_words, told_texts}
-use Rattle.om_encode.proofs.Answered.{place_of}
-use Rattle.om_encode.proofs.Fitting.{most}
+use Rattle.om_encode.specs.Encoded.{IsEncodable, AreForms, HasTrueWord, IsTextOf, AreMapWords, told_word, told_words, told_texts}
+use Rattle.om_encode.specs.Positions.{Filled, with_words, HasRoom}
+use Rattle.om_encode.proofs.Apart.{all_apart}
+use Rattle.om_encode.proofs.Answered.{word_object}
+use Rattle.om_encode.proofs.PutWords.{is_among, marked_if, text_count, marks_count, text_put, marks_put}
 use Rattle.om_encode.proofs.Slotted.{got_some}
-use Rattle.om_encode.proofs.Whole.{all_of}
+use Rattle.om_encode.proofs.TextWalks.{forms_length, forms_at}
 
 -- ---- items of texts
 
@@ -180,90 +180,112 @@ module _ (l : LayoutView) where
       ∙ texts_at (suc obj) us o t j i e f
       ∙ ap (λ (m : ℕ). Some (told_word l (record { obj = m; off = 4 * j }) i)) (omega arith)
 
-  -- ---- and that each is one
+-- ---- the number of a word
 
-  pub record IsTold (w : MapWord) : Type 0 where
-    pub at : Place
-    pub item : Item
-    pub is : told_word l at item ≡ w
+sums_step : (xs : List ℕ) (i j : ℕ) → i < j → sum (take i xs) + slice_index_or xs i 0 ≤ sum (take j xs)
+sums_step [] i zero h = absurd (omega arith)
+sums_step [] zero (suc j) h = omega arith
+sums_step [] (suc i) (suc j) h = omega arith
+sums_step (x ∷ xs) i zero h = absurd (omega arith)
+sums_step (x ∷ xs) zero (suc j) h = let s = sum_by-cons (λ x. x) x (take j xs) in omega (arith, s)
+sums_step (x ∷ xs) (suc i) (suc j) h =
+    let s = sum_by-cons (λ x. x) x (take j xs) in
+    let t = sum_by-cons (λ x. x) x (take i xs) in
+    let r = sums_step xs i j (omega (arith, h)) in
+    omega (arith, s, t, r)
 
-  told_from : (obj k : ℕ) (xs : List Item) (j : ℕ) (w : MapWord) → slice_get (told_words l obj k xs) j ≡ Some w → IsTold w
-  told_from obj k [] j w e = cc
-  told_from obj k (x ∷ xs) zero w e = record { at = record { obj = obj; off = 4 * k }; item = x; is = same e }
-    where
-      same : Some (told_word l (record { obj = obj; off = 4 * k }) x) ≡ Some w → told_word l (record { obj = obj; off = 4 * k }) x ≡ w
-      same e = cc
-  told_from obj k (x ∷ xs) (suc j) w e = told_from obj (suc k) xs j w e
+-- the place of a word of texts with so many words
+pub record IsWordPlace (counts : List ℕ) (q : Place) : Type 0 where
+  pub aligned : q.off % 4 ≡ 0
+  pub inside : q.off / 4 < slice_index_or counts q.obj 0
 
-  get_either : (xs ys : List MapWord) (k : ℕ) (w : MapWord) → slice_get (xs ++ ys) k ≡ Some w → ((j : ℕ) → slice_get xs j ≡ Some w → IsTold w) → ((j : ℕ) → slice_get ys j ≡ Some w → IsTold w) → IsTold w
-  get_either [] ys k w e f h = h k e
-  get_either (x ∷ xs) ys zero w e f h = f 0 e
-  get_either (x ∷ xs) ys (suc k) w e f h = get_either xs ys k w e (λ j g. f (suc j) g) h
+min_is : (a b n : ℕ) → b ≡ n → n ≤ a → min a b ≡ n
+min_is a b n e h = grind arith
 
-  texts_from : (obj : ℕ) (ts : List (List Item)) (k : ℕ) (w : MapWord) → slice_get (told_texts l obj ts) k ≡ Some w → IsTold w
-  texts_from obj [] k w e = cc
-  texts_from obj (t ∷ ts) k w e = get_either (told_words l obj 0 t) (told_texts l (suc obj) ts) k w e (λ j f. told_from obj 0 t j w f) (λ j f. texts_from (suc obj) ts j w f)
+pub index_is : (counts : List ℕ) (q : Place) → IsWordPlace counts q → index_of counts q ≡ sum (take q.obj counts) + q.off / 4
+index_is counts q h =
+    let al = h.aligned in
+    let j = h.inside in
+    ap (λ (n : ℕ). sum (take q.obj counts) + n) (min_is (slice_index_or counts q.obj 0) ((q.off + 3) / 4) (q.off / 4) (omega (arith, al)) (omega (arith, j)))
+
+-- no two words have one number
+one_index : (counts : List ℕ) (a b : Place) → IsWordPlace counts a → IsWordPlace counts b → index_of counts a ≡ index_of counts b → a ≡ b
+one_index counts a b ha hb e = by_object (dec_le (suc a.obj) b.obj) (dec_le (suc b.obj) a.obj)
+  where
+    x : index_of counts a ≡ sum (take a.obj counts) + a.off / 4
+    x = index_is counts a ha
+
+    y : index_of counts b ≡ sum (take b.obj counts) + b.off / 4
+    y = index_is counts b hb
+
+    by_object : Dec (suc a.obj ≤ b.obj) → Dec (suc b.obj ≤ a.obj) → a ≡ b
+    by_object (yes l) d =
+        let s = sums_step counts a.obj b.obj (omega (arith, l)) in
+        let i = ha.inside in
+        absurd (omega (arith, x, y, e, s, i))
+    by_object (no n) (yes l) =
+        let s = sums_step counts b.obj a.obj (omega (arith, l)) in
+        let i = hb.inside in
+        absurd (omega (arith, x, y, e, s, i))
+    by_object (no n) (no m) =
+        let o : a.obj ≡ b.obj = omega (arith, n, m) in
+        let t : sum (take a.obj counts) ≡ sum (take b.obj counts) = ap (λ (k : ℕ). sum (take k counts)) o in
+        let u = ha.aligned in
+        let v = hb.aligned in
+        equal_places a b o (omega (arith, x, y, e, t, u, v))
 
 -- ---- kept words
 
--- no word but one at the place stands between it and the next
-same_test : (w q : Place) → w.off % 4 ≡ 0 → q.off % 4 ≡ 0 → place_eq w q ≡ false → place_lt w (next_place q) ≡ place_lt w q
-same_test w q a b e =
-    let k : w.off < q.off + 4 → q.off ≤ w.off → w.off ≡ q.off = λ h j. omega arith in
-    grind (arith, nat_tests, k)
+module _ (g : GraphView) where
+  same_test : (a b : Place) → IsWordPlace g.counts a → IsWordPlace g.counts b → (index_of g.counts a == index_of g.counts b) ≡ place_eq a b
+  same_test a b ha hb = by_test (place_eq a b) refl
+    where
+      by_test : (t : Bool) → place_eq a b ≡ t → (index_of g.counts a == index_of g.counts b) ≡ t
+      by_test true t = eq-eqb (index_of g.counts a) (index_of g.counts b) (ap (index_of g.counts) (same_place a b t))
+      by_test false t = by_index (index_of g.counts a == index_of g.counts b) refl
+        where
+          apart : true ≡ false → ⊥
+          apart e = cc
 
-none_between : (ws : List Word) (q : Place) → q.off % 4 ≡ 0 → ((w : Word) → Has ws w → w.at.off % 4 ≡ 0) → find (λ w. place_eq w.at q) ws ≡ None → words_before ws (next_place q) ≡ words_before ws q
-none_between [] q a h f = refl
-none_between (w ∷ ws) q a h f = by_test (place_eq w.at q) refl f (none_between ws q a (λ x m. h x (inr m)))
-  where
-    by_test :
-        (b : Bool) → place_eq w.at q ≡ b → cond b (Some w) (find (λ w. place_eq w.at q) ws) ≡ None →
-        (find (λ w. place_eq w.at q) ws ≡ None → words_before ws (next_place q) ≡ words_before ws q) → words_before (w ∷ ws) (next_place q) ≡ words_before (w ∷ ws) q
-    by_test true e f i = cc
-    by_test false e f i =
-        let t = same_test w.at q (h w (inl refl)) a e in
-        ap (λ (b : Bool). cond b (suc (words_before ws (next_place q))) (words_before ws (next_place q))) t
-        ∙ ap (λ (n : ℕ). cond (place_lt w.at q) (suc n) n) (i f)
+          by_index : (u : Bool) → (index_of g.counts a == index_of g.counts b) ≡ u → (index_of g.counts a == index_of g.counts b) ≡ false
+          by_index false u = u
+          by_index true u =
+              let s = one_index g.counts a b ha hb (eqb-true (index_of g.counts a) (index_of g.counts b) u) in
+              absurd (apart (sym (self_eq b) ∙ ap (λ (x : Place). place_eq x b) (sym s) ∙ t))
 
-found_at : (ws : List Word) (q : Place) (w : Word) → find (λ w. place_eq w.at q) ws ≡ Some w → Has ws w × (w.at ≡ q)
-found_at [] q w e = cc
-found_at (v ∷ vs) q w e = by_test (place_eq v.at q) refl e (found_at vs q w)
-  where
-    by_test : (b : Bool) → place_eq v.at q ≡ b → cond b (Some v) (find (λ w. place_eq w.at q) vs) ≡ Some w → (find (λ w. place_eq w.at q) vs ≡ Some w → Has vs w × (w.at ≡ q)) → Has (v ∷ vs) w × (w.at ≡ q)
-    by_test true t e i = let s : v ≡ w = cc in (inl s, ap (λ (x : Word). x.at) (sym s) ∙ same_place v.at q t)
-    by_test false t e i = let r = i e in (inr r.0, r.1)
+  among_kept : (ws : List Word) (q : Place) → ((w : Word) → Has ws w → IsWordPlace g.counts w.at) → IsWordPlace g.counts q → is_among g ws (index_of g.counts q) ≡ is_some (find (λ w. place_eq w.at q) ws)
+  among_kept [] q h b = refl
+  among_kept (w ∷ ws) q h b =
+      ap (λ (t : Bool). t || is_among g ws (index_of g.counts q)) (same_test w.at q (h w (inl refl)) b)
+      ∙ by_test (place_eq w.at q) (among_kept ws q (λ x m. h x (inr m)) b)
+    where
+      by_test : (t : Bool) → is_among g ws (index_of g.counts q) ≡ is_some (find (λ w. place_eq w.at q) ws) → (t || is_among g ws (index_of g.counts q)) ≡ is_some (cond t (Some w) (find (λ w. place_eq w.at q) ws))
+      by_test true i = refl
+      by_test false i = i
 
-lt_irrefl : (n : ℕ) → nat_lt n n ≡ false
-lt_irrefl n = grind (arith, nat_tests)
+  marked_is : (l : LayoutView) (q : Place) (item : Item) (b : Bool) → is_kept g q ≡ b → marked_if b (told_word l q item) ≡ map_word g l q item
+  marked_is l q item true e = ap (λ (k : Bool). let w : MapWord = record { old = item.word; position = position_of l q; kept = k } in w) (sym e)
+  marked_is l q item false e = ap (λ (k : Bool). let w : MapWord = record { old = item.word; position = position_of l q; kept = k } in w) (sym e)
 
+-- what is there when all words of a graph are put in
 module _ (p : ProgramView) (g : GraphView) (l : LayoutView) (c : IsEncodable p g l) where
-  kept_is : (q : Place) → IsPlaceOf g.counts q → IsPlaceOf g.counts (next_place q) → nat_lt (position_of l q) (position_of l (next_place q)) ≡ is_kept g q
-  kept_is q here behind = by_found (find (λ w. place_eq w.at q) (words g)) refl
+  words_are : AreWordsOf g.counts (words g)
+  words_are = words_of p c.program g c.graph
+
+  word_place : (w : Word) → Has (words g) w → IsWordPlace g.counts w.at
+  word_place w h = record { aligned = words_are.aligned w h; inside = words_are.inside w h }
+
+  -- a word of the program
+  record IsItem (q : Place) (item : Item) : Type 0 where
+    text : List Item
+    there : slice_get p.texts q.obj ≡ Some text
+    here : slice_get text (q.off / 4) ≡ Some item
+    place : IsWordPlace g.counts q
+
+  is_item : (q : Place) (item : Item) → item_at p q ≡ Some item → IsItem q item
+  is_item q item e = by_text (slice_get p.texts q.obj) refl
     where
-      a : position_of l q ≡ words_before (words g) q
-      a = c.layout.positions q here
-
-      b : position_of l (next_place q) ≡ words_before (words g) (next_place q)
-      b = c.layout.positions (next_place q) behind
-
-      by_found : (o : Option Word) → find (λ w. place_eq w.at q) (words g) ≡ o → nat_lt (position_of l q) (position_of l (next_place q)) ≡ is_kept g q
-      by_found None f =
-          let n = none_between (words g) q here.aligned (words_of p c.program g c.graph).aligned f in
-          ap (λ (m : ℕ). nat_lt (position_of l q) m) (b ∙ n ∙ sym a) ∙ lt_irrefl (position_of l q) ∙ sym (ap (λ (o : Option Word). is_some o) f)
-      by_found (Some w) f =
-          let r = found_at (words g) q w f in
-          let are = words_of p c.program g c.graph in
-          let n : words_before (words g) (next_place q) ≡ suc (words_before (words g) q) =
-          subst (λ (x : Place). words_before (words g) (next_place x) ≡ suc (words_before (words g) x)) r.1 (next_before (words g) w are.sorted are.aligned r.0) in
-          lt-ltb (position_of l q) (position_of l (next_place q)) (omega (arith, a, b, n)) ∙ sym (ap (λ (o : Option Word). is_some o) f)
-
-  told_is : (q : Place) (item : Item) → IsPlaceOf g.counts q → IsPlaceOf g.counts (next_place q) → told_word l q item ≡ map_word g l q item
-  told_is q item here behind = ap (λ (k : Bool). record { old = item.word; position = position_of l q; kept = k }) (kept_is q here behind)
-
-  each_is : (q : Place) (item : Item) → item_at p q ≡ Some item → slice_get (told_texts l 0 p.texts) (index_of g.counts q) ≡ Some (map_word g l q item)
-  each_is q item e = by_text (slice_get p.texts q.obj) refl
-    where
-      by_text : (o : Option (List Item)) → slice_get p.texts q.obj ≡ o → slice_get (told_texts l 0 p.texts) (index_of g.counts q) ≡ Some (map_word g l q item)
+      by_text : (o : Option (List Item)) → slice_get p.texts q.obj ≡ o → IsItem q item
       by_text None f = absurd (none_there (q.off % 4 == 0) (sym (ap (λ (o : Option (List Item)). cond (q.off % 4 == 0) (option_and_then (λ t. slice_get t (q.off / 4)) o) None) f) ∙ e))
         where
           none_there : (b : Bool) → cond b None None ≡ Some item → ⊥
@@ -271,41 +293,88 @@ module _ (p : ProgramView) (g : GraphView) (l : LayoutView) (c : IsEncodable p g
           none_there false e = cc
       by_text (Some t) f =
           let i = item_get p q t item f e in
-          let al = i.1 in
-          let here = place_of p g l c q (ap (λ (o : Option Item). is_some o) e) in
           let k = ap (λ (xs : List ℕ). slice_index_or xs q.obj 0) c.graph.counts ∙ count_is p.texts q.obj t f in
           let j = index_below t (q.off / 4) item i.0 in
-          let obj = here.object in
-          let behind : IsPlaceOf g.counts (next_place q) = record { object = obj; aligned = omega (arith, al); inside = omega (arith, k, j) } in
-          let m : min (slice_index_or g.counts q.obj 0) ((q.off + 3) / 4) ≡ q.off / 4 = min_is (slice_index_or g.counts q.obj 0) ((q.off + 3) / 4) (q.off / 4) (omega (arith, al)) (omega (arith, k, j)) in
-          let s : index_of g.counts q ≡ sum (take q.obj (map (λ t. length t) p.texts)) + q.off / 4 =
-          ap (λ (n : ℕ). sum (take q.obj g.counts) + n) m ∙ ap (λ (xs : List ℕ). sum (take q.obj xs) + q.off / 4) c.graph.counts in
-          ap (slice_get (told_texts l 0 p.texts)) s
-          ∙ texts_at l 0 p.texts q.obj t (q.off / 4) item f i.0
-          ∙ ap (λ (n : ℕ). Some (told_word l (record { obj = 0 + q.obj; off = n }) item)) (omega (arith, al))
-          ∙ ap (λ (n : ℕ). Some (told_word l (record { obj = n; off = q.off }) item)) (omega arith)
-          ∙ ap (λ (w : MapWord). Some w) (told_is q item here behind)
-        where
-          min_is : (a b n : ℕ) → b ≡ n → n ≤ a → min a b ≡ n
-          min_is a b n e h = grind arith
+          record { text = t; there = f; here = i.0; place = record { aligned = i.1; inside = omega (arith, k, j) } }
 
-  in_bounds : (at : Place) (item : Item) → (told_word l at item).position < cond (told_word l at item).kept (length (words g)) (length (words g) + 1)
-  in_bounds at item = by_test (nat_lt (position_of l at) (position_of l (next_place at))) refl
+  told_here : (q : Place) (item : Item) → item_at p q ≡ Some item → slice_get (told_texts l 0 p.texts) (index_of g.counts q) ≡ Some (told_word l q item)
+  told_here q item e =
+      let i = is_item q item e in
+      let al = i.place.aligned in
+      ap (slice_get (told_texts l 0 p.texts))
+      (index_is g.counts q i.place ∙ ap (λ (xs : List ℕ). sum (take q.obj xs) + q.off / 4) c.graph.counts)
+      ∙ texts_at l 0 p.texts q.obj i.text (q.off / 4) item i.there i.here
+      ∙ ap (λ (n : ℕ). Some (told_word l (record { obj = 0 + q.obj; off = n }) item)) (omega (arith, al))
+      ∙ ap (λ (n : ℕ). Some (told_word l (record { obj = n; off = q.off }) item)) (omega arith)
+
+  -- the words of the map, of which none is marked yet
+  pub told_total : (list : List MapWord) → list ≡ told_texts l 0 p.texts → length list ≡ sum g.counts
+  told_total list e = ap (λ (ws : List MapWord). length ws) e ∙ texts_length l 0 p.texts ∙ ap sum (sym c.graph.counts)
+
+  index_small : (q : Place) → IsWordPlace g.counts q → index_of g.counts q < sum g.counts
+  index_small q h =
+      let x = index_is g.counts q h in
+      let i = h.inside in
+      let s = sums_step g.counts q.obj (suc (max_of q.obj (length g.counts))) (more q.obj (length g.counts)) in
+      let t = ap sum (take_all (suc (max_of q.obj (length g.counts))) g.counts (most q.obj (length g.counts))) in
+      omega (arith, x, i, s, t)
     where
-      by_test : (b : Bool) → nat_lt (position_of l at) (position_of l (next_place at)) ≡ b → position_of l at < cond b (length (words g)) (length (words g) + 1)
-      by_test true e =
-          let h = ltb-true (position_of l at) (position_of l (next_place at)) e in
-          let m = most p g l c.program c.graph c.limits c.layout (next_place at) in
-          omega (arith, h, m)
-      by_test false e = let m = most p g l c.program c.graph c.limits c.layout at in omega (arith, m)
+      max_of : ℕ → ℕ → ℕ
+      max_of a b = a + b
 
-  pub map_words_are : (list : List MapWord) → list ≡ told_texts l 0 p.texts → AreMapWords p g l list
-  map_words_are list e = record {
-    total = ap (λ (ws : List MapWord). length ws) e ∙ texts_length l 0 p.texts ∙ ap sum (sym c.graph.counts);
-    each = λ q item h. ap (λ (ws : List MapWord). slice_get ws (index_of g.counts q)) e ∙ each_is q item h;
-    positions =
-        all_of (λ (w : MapWord). w.position < cond w.kept (length (words g)) (length (words g) + 1)) list
-        (λ k w h.
-        let t = texts_from l 0 p.texts k w (ap (λ (ws : List MapWord). slice_get ws k) (sym e) ∙ h) in
-        subst (λ (x : MapWord). x.position < cond x.kept (length (words g)) (length (words g) + 1)) t.is (in_bounds t.at t.item));
-  }
+      more : (a b : ℕ) → a < suc (max_of a b)
+      more a b = omega arith
+
+      most : (a b : ℕ) → b ≤ suc (max_of a b)
+      most a b = omega arith
+
+  module _ (listed : List ℕ) (forms : AreForms p g l (words g) listed) (first : Filled) (count : first.count ≡ 0) (size : length first.text ≡ length listed) (told : first.words ≡ told_texts l 0 p.texts) where
+    pub room : HasRoom g l listed first (words g)
+    room = record {
+      object = λ w h. word_object p g l c w h;
+      text = λ w h. let a = c.layout.words.inside w h in let n = forms_length p g l (words g) listed forms in omega (arith, a, n, size);
+      words = λ w h. let a = index_small w.at (word_place w h) in let n = told_total first.words told in omega (arith, a, n);
+      count = let n = forms_length p g l (words g) listed forms in omega (arith, n, count);
+    }
+
+    abbrev last : Filled
+    last = with_words g l listed first (words g)
+
+    pub text_is : (text : List ℕ) → text ≡ last.text → IsTextOf p g l text
+    text_is text e = record {
+      count = ap (λ (xs : List ℕ). length xs) e ∙ text_count g l listed first (words g) ∙ size ∙ forms_length p g l (words g) listed forms;
+      forms = λ w h. at_number w (number_of (words g) w h);
+    }
+      where
+        number_of : (ws : List Word) (w : Word) → Has ws w → (k : ℕ) × (slice_get ws k ≡ Some w)
+        number_of [] w h = absurd h
+        number_of (v ∷ vs) w (inl e) = (0, ap (λ (x : Word). Some x) e)
+        number_of (v ∷ vs) w (inr h) = let r = number_of vs w h in (suc r.0, r.1)
+
+        at_number : (w : Word) → (k : ℕ) × (slice_get (words g) k ≡ Some w) → HasTrueWord p g l text w
+        at_number w (k, f) =
+            let x = forms_at p g l (words g) listed k w forms f in
+            let put = text_put g l listed first (words g) k w (all_apart g l (Comes g) c.layout.words words_are) room f in
+            let here : slice_index_or listed (first.count + k) 0 ≡ x.0 =
+            ap (λ (n : ℕ). slice_index_or listed n 0) (omega (arith, count)) ∙ got_value listed k x.0 x.1 in
+            record {
+              word = x.0;
+              found = ap (λ (xs : List ℕ). slice_get xs (position_of l w.at)) e ∙ put ∙ ap (λ (n : ℕ). Some n) here;
+              form = x.2;
+            }
+          where
+            got_value : (xs : List ℕ) (k x : ℕ) → slice_get xs k ≡ Some x → slice_index_or xs k 0 ≡ x
+            got_value [] k x e = cc
+            got_value (y ∷ ys) zero x e = cc
+            got_value (y ∷ ys) (suc k) x e = got_value ys k x e
+
+    pub map_words_are : (list : List MapWord) → list ≡ last.words → AreMapWords p g l list
+    map_words_are list e = record {
+      total = ap (λ (ws : List MapWord). length ws) e ∙ marks_count g l listed first (words g) ∙ told_total first.words told;
+      each = λ q item h.
+          ap (λ (ws : List MapWord). slice_get ws (index_of g.counts q)) e
+          ∙ marks_put g l listed first (words g) (index_of g.counts q) (told_word l q item) room
+          (ap (λ (ws : List MapWord). slice_get ws (index_of g.counts q)) told ∙ told_here q item h)
+          ∙ ap (λ (b : Bool). Some (marked_if b (told_word l q item))) (among_kept g (words g) q word_place (is_item q item h).place)
+          ∙ ap (λ (m : MapWord). Some m) (marked_is g l q item (is_kept g q) refl);
+    }

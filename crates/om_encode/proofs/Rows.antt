@@ -18,8 +18,10 @@ use Rattle.om_prog.specs.View.{item_at}
 use Rattle.om_prog.specs.Valid.{IsProgram, IsItem, IsText, IsRegionInit}
 use Rattle.om_graph.specs.View.{Has}
 use Rattle.om_graph.specs.Run.{words}
+use Rattle.om_graph.specs.Kept.{Comes}
 use Rattle.om_graph.specs.Lifted.{IsLifted}
 use Rattle.om_graph.specs.Index.{index_of}
+use Rattle.om_graph.proofs.LiftedOf.{lifted_of}
 use Rattle.om_image.specs.declared.map.MapObj.{MapObj}
 use Rattle.om_image.specs.declared.map.MapTable.{MapTable}
 use Rattle.om_image.specs.declared.map.MapRegion.{MapRegion}
@@ -28,6 +30,7 @@ use Rattle.om_image.specs.Valid.{IsValidImage, IsSlot, IsInMap}
 use Rattle.om_lockstep.specs.Addresses.{IsValue}
 use Rattle.om_layout.specs.Layout.{TableAt, position_of, region_at}
 use Rattle.om_layout.specs.Order.{slots_of, words_before, IsPlaceOf, IsLayoutOf}
+use Rattle.om_layout.proofs.Natural.{lays_out}
 use Rattle.om_encode.specs.Data.{DataIsTrue, DistanceFits, RoleFits, data_byte, region_byte}
 use Rattle.om_encode.specs.Text.{TextIsTrue, map_word}
 use Rattle.om_encode.specs.Fields.{FieldsAreTrue, IsTrueWord}
@@ -235,7 +238,7 @@ fields_are = record {
 }
 
 is_true : IsTrueMap the_program the_graph the_layout the_image
-is_true = record { layout = is_layout; map = record { data_part = data_is; text = text_is; fields = fields_are } }
+is_true = record { layout = lays_out the_program is_program the_graph (lifted_of the_program is_program the_graph is_lifted) the_layout is_layout (Comes the_graph); map = record { data_part = data_is; text = text_is; fields = fields_are } }
 
 is_valid : IsValidImage the_image
 is_valid = record {

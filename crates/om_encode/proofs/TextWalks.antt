@@ -3,15 +3,8 @@ use Rattle.std.proofs.Common.{◌≡◌, inl, inr, ℕ, zero, suc, ◌<◌, Bool
 use Rattle.std.specs.Prelude.{map, is_some, slice_get, slice_set, find, option_map, option_and_then, ℤ}
 use Rattle.std.specs.Option.{option_or}
 use Rattle.std.proofs.lemmas.Bool.{eqb-true, eq-eqb}
-use Rattle.om_isa.specs.declared.instr.Instr.{Instr}
-use Rattle.om_isa.specs.declared.instr.Instr.TheVariants.{Mem, Jump, Branch, Alu, Cmov, Misc, Fnop, Halt, Callsys}
-use Rattle.om_isa.specs.Words.{Encodes, instr_of}
-use Rattle.om_isa.proofs.Reading.{complete}
-use Rattle.om_value.specs.declared.value.Place.{Place}
 use Rattle.om_value.specs.declared.value.Target.{Target}
-use Rattle.om_value.specs.declared.value.Target.TheVariants as target
-use Rattle.om_prog.specs.Act as act
-use Rattle.om_prog.specs.Act.{Act, Word, base_of}
+use Rattle.om_prog.specs.Act.{Word}
 use Rattle.om_prog.specs.View.{ProgramView}
 use Rattle.om_graph.specs.declared.op.Op.{Op}
 use Rattle.om_graph.specs.declared.op.Last.{Last}
@@ -20,15 +13,12 @@ use Rattle.om_graph.specs.declared.op.OpKind.TheVariants as op
 use Rattle.om_graph.specs.View.{Node, Block, GraphView, Has, ops_of, block_of, is_live_block, first_op_of, next_op_of, op_of, last_of, block_id_after, first_block_id, first_id, is_live_op, is_block}
 use Rattle.om_graph.specs.Run.{words, all_words, block_words, op_word, last_words}
 use Rattle.om_graph.specs.Held.{IsGraph}
-use Rattle.om_layout.specs.Layout.{LayoutView, position_of}
-use Rattle.om_layout.proofs.Placing.{stands_at}
-use Rattle.om_layout.proofs.Sorted.{words_of}
+use Rattle.om_layout.specs.Layout.{LayoutView}
 use Rattle.om_encode.specs.declared.highs.High.{High}
-use Rattle.om_encode.specs.Fields.{HasForm, HasLda, HasUse}
-use Rattle.om_encode.specs.Encoded.{IsEncodable, AreForms, Writes, WritesIf, WritesOp, IsTextOf, op_words}
+use Rattle.om_encode.specs.Fields.{HasForm}
+use Rattle.om_encode.specs.Encoded.{IsEncodable, AreForms, Writes, WritesIf, WritesOp, op_words}
 use Rattle.om_encode.specs.Written.{AreHighs, FitsOp, FitsLast, last_high, last_instr, high_in, noted}
-use Rattle.om_encode.proofs.Whole.{all_of}
-use Rattle.om_encode.proofs.Answered.{formed, at_word, last_fits, last_formed}
+use Rattle.om_encode.proofs.Answered.{formed, last_fits, last_formed}
 use Rattle.om_encode.proofs.Fitted.{fits_op}
 use Rattle.om_encode.proofs.UsesOfHighs.{map_append, last_more}
 use Rattle.om_encode.proofs.Walks.{append_none, AtBlock, ThisBlock, this_block, behind_block, AtOp, ThisOp, this_op, live_here, op_here, behind_op, all_ops, all_blocks, fewer_ops, fewer_blocks, ops_left, blocks_left, start_blocks}
@@ -42,13 +32,13 @@ module _ (p : ProgramView) (g : GraphView) (l : LayoutView) where
   forms_both (v ∷ vs) ws [] ys f h = absurd f
   forms_both (v ∷ vs) ws (x ∷ xs) ys f h = (f.0, forms_both vs ws xs ys f.1 h)
 
-  forms_length : (ws : List Word) (xs : List ℕ) → AreForms p g l ws xs → length xs ≡ length ws
+  pub forms_length : (ws : List Word) (xs : List ℕ) → AreForms p g l ws xs → length xs ≡ length ws
   forms_length [] [] f = refl
   forms_length [] (x ∷ xs) f = absurd f
   forms_length (w ∷ ws) [] f = absurd f
   forms_length (w ∷ ws) (x ∷ xs) f = ap suc (forms_length ws xs f.1)
 
-  forms_at : (ws : List Word) (xs : List ℕ) (k : ℕ) (w : Word) → AreForms p g l ws xs → slice_get ws k ≡ Some w → (x : ℕ) × (slice_get xs k ≡ Some x) × HasForm p g l w.at w.act x
+  pub forms_at : (ws : List Word) (xs : List ℕ) (k : ℕ) (w : Word) → AreForms p g l ws xs → slice_get ws k ≡ Some w → (x : ℕ) × (slice_get xs k ≡ Some x) × HasForm p g l w.at w.act x
   forms_at [] xs k w f e = cc
   forms_at (v ∷ vs) [] k w f e = absurd f
   forms_at (v ∷ vs) (x ∷ xs) zero w f e =
@@ -65,59 +55,6 @@ module _ (p : ProgramView) (g : GraphView) (l : LayoutView) where
 
   pub writes_none : (a : List ℕ) → Writes p g l [] a a
   writes_none a = record { added = []; text = sym (append_none a); forms = tt }
-
-  -- ---- each image word has an instruction
-
-  use_instr : (at : Place) (w : ℕ) (i : Instr) (base : ℕ) (start : _) → HasUse p g l at w i base start → (j : Instr) × Encodes w j
-  use_instr at w (Mem o ra rb d) base start u = (_, u.1)
-  use_instr at w (Jump k ra rb h) base start u = absurd u
-  use_instr at w (Branch o ra d) base start u = absurd u
-  use_instr at w (Alu o ra rb rc) base start u = absurd u
-  use_instr at w (Cmov k ra rb rc) base start u = absurd u
-  use_instr at w (Misc o ra rb) base start u = absurd u
-  use_instr at w Fnop base start u = absurd u
-  use_instr at w Halt base start u = absurd u
-  use_instr at w Callsys base start u = absurd u
-
-  lda_instr : (at : Place) (w ra rb : ℕ) (t : Target) → HasLda p g l at w ra rb t → (j : Instr) × Encodes w j
-  lda_instr at w ra rb (target.Num n) f = (_, f.1)
-  lda_instr at w ra rb (target.Ptr r x) f = (_, f.1)
-  lda_instr at w ra rb (target.Code q) f = absurd f
-
-  form_instr : (at : Place) (a : Act) (w : ℕ) → HasForm p g l at a w → (j : Instr) × Encodes w j
-  form_instr at (act.Plain i) w f = (i, f)
-  form_instr at (act.Lit ra rb t) w f = (_, f.2)
-  form_instr at (act.GpHi ra rb b) w f = (_, f.2)
-  form_instr at (act.GpLo ra rb b) w f = (_, f.3)
-  form_instr at (act.To o ra q) w f = (_, f.1)
-  form_instr at (act.AddrLda ra rb t) w f = lda_instr at w ra rb t f
-  form_instr at (act.AddrHi ra rb t) w f = (_, f.2)
-  form_instr at (act.UseLo i hi t) w f = use_instr at w i (base_of i) _ f.2
-  form_instr at (act.UseGp i gp t) w f = use_instr at w i gp _ f
-  form_instr at act.Wrong w f = absurd f
-
-  forms_instr : (ws : List Word) (xs : List ℕ) (k x : ℕ) → AreForms p g l ws xs → slice_get xs k ≡ Some x → is_some (instr_of x) ≡ true
-  forms_instr ws [] k x f e = cc
-  forms_instr [] (y ∷ xs) k x f e = absurd f
-  forms_instr (w ∷ ws) (y ∷ xs) zero x f e =
-      let i = form_instr w.at w.act y f.0 in
-      let s : y ≡ x = cc in
-      subst (λ (z : ℕ). is_some (instr_of z) ≡ true) s (ap (λ (o : Option Instr). is_some o) (complete y i.0 i.1))
-  forms_instr (w ∷ ws) (y ∷ xs) (suc k) x f e = forms_instr ws xs k x f.1 e
-
-  module _ (c : IsEncodable p g l) where
-    -- words of forms in order are the text
-    pub text_is : (text : List ℕ) → AreForms p g l (words g) text → IsTextOf p g l text
-    text_is text f = record {
-      count = forms_length (words g) text f;
-      forms =
-          λ w h.
-          let here : slice_get (words g) (position_of l w.at) ≡ Some w =
-          ap (slice_get (words g)) (at_word p g l c w h) ∙ stands_at (words g) w (words_of p c.program g c.graph).sorted h in
-          let r = forms_at (words g) text (position_of l w.at) w f here in
-          record { word = r.0; found = r.1; form = r.2 };
-      instrs = all_of (λ x. is_some (instr_of x) ≡ true) text (λ k x e. forms_instr (words g) text k x f e);
-    }
 
 -- ---- op by op
 
@@ -340,6 +277,10 @@ module _ (p : ProgramView) (g : GraphView) (l : LayoutView) (c : IsEncodable p g
 
 -- ---- block by block
 
+pub all_words_more : (bs : List Block) (b : Block) → all_words (bs ++ b ∷ []) ≡ all_words bs ++ block_words b
+all_words_more [] b = append_none (block_words b)
+all_words_more (x ∷ bs) b = ap (λ (ws : List Word). block_words x ++ ws) (all_words_more bs b) ∙ sym (append_assoc (block_words x) (all_words bs) (block_words b))
+
 pub record TextSoFar (p : ProgramView) (g : GraphView) (l : LayoutView) (next : Option ℕ) (text : List ℕ) : Type 0 where
   pub done : List Block
   pub left : List Block
@@ -354,10 +295,6 @@ module _ (p : ProgramView) (g : GraphView) (l : LayoutView) where
     stands = start_blocks g next e;
     written = subst (λ (xs : List ℕ). Writes p g l [] [] xs) (sym t) (writes_none p g l []);
   }
-
-  all_words_more : (bs : List Block) (b : Block) → all_words (bs ++ b ∷ []) ≡ all_words bs ++ block_words b
-  all_words_more [] b = append_none (block_words b)
-  all_words_more (x ∷ bs) b = ap (λ (ws : List Word). block_words x ++ ws) (all_words_more bs b) ∙ sym (append_assoc (block_words x) (all_words bs) (block_words b))
 
   module _ (graph : IsGraph g) (id : ℕ) (next : Option ℕ) (text : List ℕ) (so : TextSoFar p g l next text) (here : next ≡ Some id) where
     this_one : ThisBlock g id so.done

@@ -15,10 +15,10 @@ use Rattle.om_prog.specs.declared.item.Item.{Item}
 use Rattle.om_prog.specs.Act.{Word}
 use Rattle.om_prog.specs.View.{ProgramView, item_in, item_at, is_word}
 use Rattle.om_prog.specs.Valid.{IsProgram, is_given}
-use Rattle.om_graph.specs.View.{GraphView, Has, place_lt}
+use Rattle.om_graph.specs.View.{GraphView, Has}
 use Rattle.om_graph.specs.Run.{words}
 use Rattle.om_graph.specs.LeftIn.{is_kept}
-use Rattle.om_graph.specs.Kept.{KeptInBlocks, IsInKeptSet, root, IsBlock, IsEnd}
+use Rattle.om_graph.specs.Kept.{KeptInBlocks, IsInKeptSet, root, IsBlock, IsEnd, Comes}
 use Rattle.om_graph.specs.Index.{index_of}
 use Rattle.om_graph.specs.OfProgram.{IsGraphOf}
 use Rattle.om_graph.proofs.OfProgram.{map_length, count_is, index_below, same_some}
@@ -32,19 +32,19 @@ use Rattle.om_image.specs.Rules.{is_entry}
 use Rattle.om_image.specs.Valid.{IsInMap, IsSlot, IsMap, IsValidImage}
 use Rattle.om_lockstep.proofs.Small.{same_place}
 use Rattle.om_layout.specs.Layout.{LayoutView, TableAt, RegionAt, position_of}
-use Rattle.om_layout.specs.Order.{IsPlaceOf, IsLayoutOf, words_before, table_count, extent_at, extent_of}
+use Rattle.om_layout.specs.Order.{table_count, extent_at, extent_of}
 use Rattle.om_layout.specs.Limits.{IsWithinLimits, StaysInLimits}
-use Rattle.om_layout.specs.Facts.{LaysOut, AreSorted, IsBeforeAll}
+use Rattle.om_layout.specs.Facts.{LaysOut}
 use Rattle.om_layout.proofs.Limits.{stays}
-use Rattle.om_layout.proofs.Natural.{lays_out}
-use Rattle.om_layout.proofs.Placing.{found_has, later_is}
+use Rattle.om_layout.proofs.Placing.{found_has}
 use Rattle.om_layout.proofs.Sorted.{AreWordsOf, words_of}
 use Rattle.om_encode.specs.Data.{DataIsTrue, slot_target, map_table, map_region}
 use Rattle.om_encode.specs.Text.{TextIsTrue, map_word}
 use Rattle.om_encode.specs.TrueMap.{IsTrueMap}
 use Rattle.om_encode.specs.Valid.{TrueMapsAreValid}
+use Rattle.om_encode.proofs.Apart.{every_position}
 use Rattle.om_encode.proofs.Behind.{word_behind_label}
-use Rattle.om_encode.proofs.Whole.{all_of}
+use Rattle.om_encode.proofs.Whole.{all_of, label_comes}
 use Rattle.om_encode.proofs.Readable.{form_reads}
 use Rattle.om_encode.proofs.Targets.{given_in_map, slot_in_map}
 
@@ -183,29 +183,6 @@ every_word (t ∷ ts) k h =
     by_size (yes le) again = later (again le) le
     by_size (no lt) again = first (omega (arith, lt))
 
--- ---- words in order
-
-turned : (a b : Place) → place_lt a b ≡ true → place_lt b a ≡ false
-turned a b e = grind (arith, nat_tests)
-
-self_not : (a : Place) → place_lt a a ≡ false
-self_not a = grind (arith, nat_tests)
-
-none_before : (v : Word) (xs : List Word) → IsBeforeAll v xs → words_before xs v.at ≡ 0
-none_before v [] h = refl
-none_before v (y ∷ ys) h = let e = turned v.at y.at h.0 in rw e (none_before v ys h.1)
-
--- the words before the k-th are k
-stands_only : (ws : List Word) (k : ℕ) (w : Word) → AreSorted ws → slice_get ws k ≡ Some w → words_before ws w.at ≡ k
-stands_only [] k w h e = cc
-stands_only (v ∷ vs) zero w h e =
-    let s : v ≡ w = cc in
-    let n = self_not v.at in
-    subst (λ (x : Word). words_before (v ∷ vs) x.at ≡ 0) s (rw n (none_before v vs h.0))
-stands_only (v ∷ vs) (suc k) w h e =
-    let b = later_is v vs w h.0 (has_at vs k w e) in
-    rw b (ap suc (stands_only vs k w h.1 e))
-
 -- ---- a word that is kept
 
 kept_word : (ws : List Word) (q : Place) → is_some (find (λ (w : Word). place_eq w.at q) ws) ≡ true → (w : Word) × Has ws w × (w.at ≡ q)
@@ -221,7 +198,7 @@ kept_word (v ∷ vs) q e = by_test (kept_word vs q) (place_eq v.at q) refl e
 -- ---- the image
 
 module _ (p : ProgramView) (g : GraphView) (l : LayoutView) (i : Image) (prog : IsProgram p) (of : IsGraphOf p g) (kept : KeptInBlocks g) (limits : IsWithinLimits p) (true_map : IsTrueMap p g l i) where
-  lay : IsLayoutOf p g l
+  lay : LaysOut p g l (Comes g)
   lay = true_map.layout
 
   data_is : DataIsTrue p g l i
@@ -232,9 +209,6 @@ module _ (p : ProgramView) (g : GraphView) (l : LayoutView) (i : Image) (prog : 
 
   inside : StaysInLimits g l
   inside = stays p prog g of limits l lay.data_part
-
-  laid : LaysOut p g l (λ q. Unit {0})
-  laid = lays_out p prog g of l lay (λ q. Unit {0})
 
   ordered : AreWordsOf g.counts (words g)
   ordered = words_of p prog g of
@@ -261,10 +235,11 @@ module _ (p : ProgramView) (g : GraphView) (l : LayoutView) (i : Image) (prog : 
 
   entry_below : position_of l p.entry < length i.text
   entry_below =
-      let w = word_behind_label p prog g of kept p.entry entry_kept (entry_block (kept.label p.entry entry_kept)) in
+      let b = entry_block (kept.label p.entry entry_kept) in
+      let w = word_behind_label p prog g of kept p.entry entry_kept b in
       let h = found_has (words g) p.entry w.0 w.1 in
-      let same = laid.words.found p.entry w.0 tt w.1 in
-      let lt = laid.words.inside w.0 h.0 in
+      let same = lay.words.found p.entry w.0 (label_comes p prog g of p.entry entry_kept b) w.1 in
+      let lt = lay.words.inside w.0 h.0 in
       let n = text_is.count in
       omega (arith, same, lt, n)
 
@@ -283,19 +258,11 @@ module _ (p : ProgramView) (g : GraphView) (l : LayoutView) (i : Image) (prog : 
   word_reads k word e =
       let n = text_is.count in
       let lt = index_below i.text k word e in
-      let w = some_at (words g) k (omega (arith, n, lt)) in
-      let h = has_at (words g) k w.0 w.1 in
-      let t = true_map.map.fields.forms w.0 h in
-      let place : IsPlaceOf g.counts w.0.at = word_place w.0 h in
-      let at : position_of l w.0.at ≡ k = lay.positions w.0.at place ∙ stands_only (words g) k w.0 ordered.sorted w.1 in
-      let found : slice_get i.text k ≡ Some t.word = ap (slice_get i.text) (sym at) ∙ t.found in
+      let w = every_position (position_of l) (Comes g) (words g) lay.words ordered.sorted k (omega (arith, n, lt)) in
+      let t = true_map.map.fields.forms w.0 w.1 in
+      let found : slice_get i.text k ≡ Some t.word = ap (slice_get i.text) (sym w.2) ∙ t.found in
       let same : t.word ≡ word = same_some (sym found ∙ e) in
       subst (λ (n : ℕ). is_some (instr_of n) ≡ true) same (form_reads p g l w.0.at w.0.act t.word t.form)
-    where
-      word_place : (w : Word) → Has (words g) w → IsPlaceOf g.counts w.at
-      word_place w h =
-          let lt = ordered.inside w h in
-          record { object = some_below g.counts w.at.obj (omega (arith, lt)); aligned = ordered.aligned w h; inside = omega (arith, lt) }
 
   -- ---- the map
 
@@ -387,11 +354,11 @@ module _ (p : ProgramView) (g : GraphView) (l : LayoutView) (i : Image) (prog : 
       by_kept : (q : Place) (b : Bool) → is_kept g q ≡ b → position_of l q < (if b then length i.text else length i.text + 1)
       by_kept q true t =
           let w = kept_word (words g) q t in
-          let lt = laid.words.inside w.0 w.1 in
+          let lt = lay.words.inside w.0 w.1 in
           let s = ap (position_of l) w.2 in
           let n = text_is.count in
           omega (arith, lt, s, n)
-      by_kept q false t = let m = laid.words.most q in let n = text_is.count in omega (arith, m, n)
+      by_kept q false t = let m = lay.words.most q in let n = text_is.count in omega (arith, m, n)
 
   map_is : IsMap (length i.text) i.map
   map_is = record {

@@ -13,14 +13,15 @@ use Rattle.om_prog.specs.declared.item.Field.{Field}
 use Rattle.om_prog.specs.declared.region.RegionInit.{RegionInit}
 use Rattle.om_prog.specs.View.{ProgramView, init_of, size_or_none, size_of}
 use Rattle.om_prog.specs.Script.{initial, init_cell}
-use Rattle.om_prog.specs.Valid.{width_of}
+use Rattle.om_prog.specs.Valid.{IsProgram, width_of}
 use Rattle.om_prog.specs.Step.{SymState, sized}
 use Rattle.om_prog.specs.Runs.{sym_run, has_observed}
 use Rattle.om_prog.specs.Within.{ValueWithin}
 use Rattle.om_graph.specs.View.{GraphView, Has}
 use Rattle.om_graph.specs.Run.{words, table_of, entry_of, is_word_in, graph_script}
 use Rattle.om_graph.specs.Form.{Ordered}
-use Rattle.om_graph.specs.Kept.{IsInKeptSet, IsBlock, IsEnd, Comes, IsKeptLabel}
+use Rattle.om_graph.specs.Kept.{IsInKeptSet, KeptInBlocks, IsBlock, IsEnd, Comes, IsKeptLabel}
+use Rattle.om_graph.specs.OfProgram.{IsGraphOf}
 use Rattle.om_graph.specs.Whole.{IsWhole}
 use Rattle.om_graph.proofs.Labels.{has_label, found_behind, is_true}
 use Rattle.om_graph.proofs.Places.{placed}
@@ -34,6 +35,7 @@ use Rattle.om_graph.proofs.LiftedRun.{lifted_run}
 use Rattle.om_image.specs.declared.image.Image.{Image}
 use Rattle.om_image.specs.NumStep.{data_size, start_memory, is_text}
 use Rattle.om_image.specs.NumRun.{num_run}
+use Rattle.om_image.specs.Valid.{IsValidImage}
 use Rattle.om_lockstep.specs.Addresses.{Addresses, IsLaidOut, IsCell, IsValue}
 use Rattle.om_lockstep.specs.Goes.{cell_byte, most_of}
 use Rattle.om_lockstep.specs.Forms.{IsEncoded, IsSlot}
@@ -41,11 +43,12 @@ use Rattle.om_lockstep.specs.Lockstep.{StartsAlike, AreBytes, KeepsCodes, InLock
 use Rattle.om_lockstep.proofs.Small.{same_region, and_true}
 use Rattle.om_lockstep.proofs.Steps.{in_lockstep}
 use Rattle.om_layout.specs.Layout.{LayoutView, TableAt, data_base, stack_base, position_of, code_at, region_at, start_at, start_or, gp_at}
+use Rattle.om_layout.specs.Facts.{LaysOut}
 use Rattle.om_layout.specs.Order.{tables_end, regions_end}
-use Rattle.om_layout.proofs.Natural.{lays_out}
 use Rattle.om_encode.specs.Halves.{addresses_of}
 use Rattle.om_encode.specs.Data.{DataIsTrue, DistanceFits, region_byte, data_byte}
-use Rattle.om_encode.specs.Runs.{Encodes, EncodedGraphsRun, TrueMapsRun, LiftedImagesRun}
+use Rattle.om_encode.specs.Runs.{TrueMapsRun, LiftedImagesRun}
+use Rattle.om_encode.specs.TrueMap.{IsMapIn}
 use Rattle.om_encode.proofs.Extents.{SizesMatch, sizes_match}
 use Rattle.om_encode.proofs.Sources.{formed}
 use Rattle.om_encode.proofs.Behind.{word_behind_label}
@@ -62,7 +65,40 @@ all_of P [] h k d lt = absurd (omega arith)
 all_of P (x ∷ xs) h zero d lt = h 0 x refl
 all_of P (x ∷ xs) h (suc k) d lt = all_of P xs (λ j y e. h (suc j) y e) k d (omega (arith, lt))
 
-module _ (p : ProgramView) (g : GraphView) (l : LayoutView) (i : Image) (e : Encodes p g l i) where
+-- a place of the kept set that is no text's end is in its block
+pub label_comes : (p : ProgramView) → IsProgram p → (g : GraphView) → IsGraphOf p g → (q : Place) → IsInKeptSet g q → IsBlock g q → Comes g q
+label_comes p prog g of q k m =
+    inl (
+      m.0,
+      record {
+        among = m.1;
+        kept = subst (IsInKeptSet g) (sym m.2) k;
+        object = ap (λ (x : Place). x.obj) (sym m.2);
+        after = let f = ap (λ (x : Place). x.off) m.2 in omega (arith, f);
+        below =
+            λ n f.
+            let d = (is_true m.0.label n (found_behind g.labels m.0.label n f).0).1 in
+            let o = ap (λ (x : Place). x.off) m.2 in
+            omega (arith, d, o);
+        in_text =
+            let among = subst (Has g.labels) m.2 (of.graph.among m.0.label (has_label g.blocks m.0 m.1)) in
+            ((words_in_place p prog g of).labels q among).1;
+        aligned =
+            let among = subst (Has g.labels) m.2 (of.graph.among m.0.label (has_label g.blocks m.0 m.1)) in
+            (words_in_place p prog g of).aligned q among;
+      },
+    )
+
+-- an image holds a graph of a program
+record Holds (p : ProgramView) (g : GraphView) (l : LayoutView) (i : Image) : Type 0 where
+  program : IsProgram p
+  graph : IsGraphOf p g
+  kept : KeptInBlocks g
+  layout : LaysOut p g l (Comes g)
+  map : IsMapIn p g l i
+  valid : IsValidImage i
+
+module _ (p : ProgramView) (g : GraphView) (l : LayoutView) (i : Image) (e : Holds p g l i) where
   addr : Addresses
   addr = addresses_of p g l
 
@@ -108,27 +144,6 @@ module _ (p : ProgramView) (g : GraphView) (l : LayoutView) (i : Image) (e : Enc
 
   -- ---- where a run may be
 
-  -- a place of the kept set that is no text's end is in its block
-  label_comes : (q : Place) → IsInKeptSet g q → IsBlock g q → Comes g q
-  label_comes q k m =
-      inl (
-        m.0,
-        record {
-          among = m.1;
-          kept = subst (IsInKeptSet g) (sym m.2) k;
-          object = ap (λ (x : Place). x.obj) (sym m.2);
-          after = let f = ap (λ (x : Place). x.off) m.2 in omega (arith, f);
-          below =
-              λ n f.
-              let d = (is_true m.0.label n (found_behind g.labels m.0.label n f).0).1 in
-              let o = ap (λ (x : Place). x.off) m.2 in
-              omega (arith, d, o);
-          in_text =
-              let among = subst (Has g.labels) m.2 (e.graph.graph.among m.0.label (has_label g.blocks m.0 m.1)) in
-              ((words_in_place p e.program g e.graph).labels q among).1;
-        },
-      )
-
   not_end : (q : Place) → IsEnd g q → is_word_in g.counts q ≡ true → ⊥
   not_end q k z =
       let b = and_true (q.off % 4 == 0) (nat_lt (q.off / 4) (slice_index_or g.counts q.obj 0)) z in
@@ -140,7 +155,7 @@ module _ (p : ProgramView) (g : GraphView) (l : LayoutView) (i : Image) (e : Enc
   lands q (inr k) z = absurd (not_end q k z)
   lands q (inl k) z =
       let w = word_behind_label p e.program g e.graph e.kept q k.0 k.1 in
-      text_lands p g l i e.layout.data_part.object_tables (Comes g) e.layout.words laid ordered e.map.fields slots slot_small q w.0 (label_comes q k.0 k.1) w.1
+      text_lands p g l i e.layout.data_part.object_tables (Comes g) e.layout.words laid ordered e.map.fields slots slot_small q w.0 (label_comes p e.program g e.graph q k.0 k.1) w.1
 
   encoded : IsEncoded (graph_script p g) (addresses_of p g l) i (IsKeptLabel g) (Comes g)
   encoded = record {
@@ -228,23 +243,13 @@ module _ (p : ProgramView) (g : GraphView) (l : LayoutView) (i : Image) (e : Enc
       by_read n r q true z = cc
       by_read n r q false z = subst (ValueWithin (IsKeptLabel g)) z ((run_labels p g whole input n).regs r)
 
-  pub runs : (input : List ℕ) → AreBytes input → InLockstep (graph_script p g) (addresses_of p g l) i input
+  runs : (input : List ℕ) → AreBytes input → InLockstep (graph_script p g) (addresses_of p g l) i input
   runs input bytes = in_lockstep (graph_script p g) (addresses_of p g l) i (IsKeptLabel g) (Comes g) encoded starts input bytes (keeps_codes input)
-
-pub encoded_graphs_run : EncodedGraphsRun
-encoded_graphs_run p g l i e input bytes = runs p g l i e input bytes
 
 pub true_maps_run : TrueMapsRun
 true_maps_run p g l i prog of kept map valid input bytes =
     runs p g l i
-    (record {
-      program = prog;
-      graph = of;
-      kept = kept;
-      layout = lays_out p prog g of l map.layout (Comes g);
-      map = map.map;
-      valid = valid;
-    })
+    (record { program = prog; graph = of; kept = kept; layout = map.layout; map = map.map; valid = valid })
     input bytes
 
 pub lifted_images_run : LiftedImagesRun

@@ -1,37 +1,38 @@
 -- When lists are the text of an image that holds a graph and the words of its map, whatever else the image has; and which
 -- graphs are encoded.
-use Rattle.std.specs.Prelude.{◌≡◌, ℕ, suc, ◌+◌, ◌*◌, ◌<◌, true, nat_lt, if◌then◌else◌, List, [], ◌∷◌, ◌++◌, length, map, sum, All, is_some, Option, Some, None, slice_get}
+use Rattle.std.specs.Prelude.{◌≡◌, ℕ, suc, ◌+◌, ◌*◌, false, List, [], ◌∷◌, ◌++◌, length, map, sum, Option, Some, None, slice_get}
 use Rattle.om_isa.specs.declared.instr.Instr.{Instr}
-use Rattle.om_isa.specs.Words.{Encodes, instr_of}
+use Rattle.om_isa.specs.Words.{Encodes}
 use Rattle.om_value.specs.declared.value.Place.{Place}
 use Rattle.om_prog.specs.declared.item.Item.{Item}
 use Rattle.om_prog.specs.Act.{Word}
-use Rattle.om_prog.specs.Step.{next_place}
 use Rattle.om_prog.specs.View.{ProgramView, item_at}
 use Rattle.om_prog.specs.Valid.{IsProgram}
 use Rattle.om_graph.specs.declared.op.Op.{Op}
 use Rattle.om_graph.specs.View.{Block, GraphView, Has, ops_of}
 use Rattle.om_graph.specs.Run.{words, op_word}
-use Rattle.om_graph.specs.Index.{index_of, BranchesInReach}
+use Rattle.om_graph.specs.Index.{index_of}
+use Rattle.om_graph.specs.Kept.{Comes}
 use Rattle.om_graph.specs.OfProgram.{IsGraphOf}
 use Rattle.om_graph.specs.Fits.{OpsFit}
 use Rattle.om_image.specs.declared.map.MapWord.{MapWord}
 use Rattle.om_layout.specs.Layout.{LayoutView, position_of, gp_of, address_of}
-use Rattle.om_layout.specs.Order.{IsLayoutOf}
+use Rattle.om_layout.specs.Facts.{LaysOut}
 use Rattle.om_layout.specs.Limits.{IsWithinLimits}
 use Rattle.om_encode.specs.declared.highs.High.{High}
 use Rattle.om_encode.specs.Fields.{HasForm}
+use Rattle.om_encode.specs.Fitting.{BranchesFit}
 use Rattle.om_encode.specs.Text.{map_word}
 use Rattle.om_encode.specs.Written.{IsInstrOf}
 
--- a graph in its layout, of which each address word fits and each branch reaches its place
+-- a graph in a layout of any order of words, of which each address word and each branch fits
 pub record IsEncodable (p : ProgramView) (g : GraphView) (l : LayoutView) : Type 0 where
   pub program : IsProgram p
   pub graph : IsGraphOf p g
   pub limits : IsWithinLimits p
-  pub layout : IsLayoutOf p g l
+  pub layout : LaysOut p g l (Comes g)
   pub fits : OpsFit p (gp_of l) (address_of l) g
-  pub reach : BranchesInReach g
+  pub branches : BranchesFit g l
 
 module _ (p : ProgramView) (g : GraphView) (l : LayoutView) where
   -- image words in forms of these words, one for each
@@ -56,7 +57,6 @@ module _ (p : ProgramView) (g : GraphView) (l : LayoutView) where
   pub record IsTextOf (text : List ℕ) : Type 0 where
     pub count : length text ≡ length (words g)
     pub forms : (w : Word) → Has (words g) w → HasTrueWord text w
-    pub instrs : All (λ w. is_some (instr_of w) ≡ true) text
 
   -- the words of its map
   pub record AreMapWords (list : List MapWord) : Type 0 where
@@ -64,8 +64,6 @@ module _ (p : ProgramView) (g : GraphView) (l : LayoutView) where
     pub each :
         (q : Place) (item : Item) → item_at p q ≡ Some item →
         slice_get list (index_of g.counts q) ≡ Some (map_word g l q item)
-    -- kept words have the number of an image word, others at most the number behind the last one
-    pub positions : All (λ w. w.position < (if w.kept then length (words g) else length (words g) + 1)) list
 
 -- the words of a block's ops
 abbrev pub op_words : Block → List Word
@@ -89,14 +87,10 @@ pub record WritesOp (p : ProgramView) (l : LayoutView) (highs : List (Option Hig
   pub is : IsInstrOf p l highs o.place.obj o.kind instr
   pub written : WritesInstr instr old new
 
--- ---- what a map says of words, by their positions: a word is kept where the next place has the next position
+-- ---- what a map says of words, of which none is marked as kept yet
 
 abbrev pub told_word : LayoutView → Place → Item → MapWord
-told_word l at item = record {
-  old = item.word;
-  position = position_of l at;
-  kept = nat_lt (position_of l at) (position_of l (next_place at));
-}
+told_word l at item = record { old = item.word; position = position_of l at; kept = false }
 
 -- of a text from a word on
 abbrev pub told_words : LayoutView → ℕ → ℕ → List Item → List MapWord

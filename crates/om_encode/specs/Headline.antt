@@ -73,7 +73,7 @@ FollowsAndRuns =
 -- ---- programs and their images
 
 -- an image whose map is true of a graph that keeps the meaning of the lifted one
-pub record IsLinked (p : ProgramView) (lifted g : GraphView) (l : LayoutView) (i : Image) : Type 0 where
+pub record IsRewritten (p : ProgramView) (lifted g : GraphView) (l : LayoutView) (i : Image) : Type 0 where
   pub program : IsProgram p
   pub origin : IsLifted p lifted
   pub keeps : Keeps p lifted g
@@ -83,7 +83,7 @@ pub record IsLinked (p : ProgramView) (lifted g : GraphView) (l : LayoutView) (i
   pub valid : IsValidImage i
 
 -- its run and the program's are alike at the steps that the graph leaves in, and so keep the promise
-pub record RunsAsProgram (p : ProgramView) (lifted g : GraphView) (l : LayoutView) (i : Image) (input : List ℕ) : Type 0 where
+pub record RunsAsLeftIn (p : ProgramView) (lifted g : GraphView) (l : LayoutView) (i : Image) (input : List ℕ) : Type 0 where
   pub counted :
       AlikeAtCounted (program_script p) (addresses_of p g l) i input (sum lifted.counts)
       (λ n. length (left_in g (graph_script p lifted) input n))
@@ -91,5 +91,5 @@ pub record RunsAsProgram (p : ProgramView) (lifted g : GraphView) (l : LayoutVie
 
 abbrev pub LinkedImagesRun : Type 0
 LinkedImagesRun =
-    (p : ProgramView) (lifted g : GraphView) (l : LayoutView) (i : Image) → IsLinked p lifted g l i →
-    (input : List ℕ) → AreBytes input → RunsAsProgram p lifted g l i input
+    (p : ProgramView) (lifted g : GraphView) (l : LayoutView) (i : Image) → IsRewritten p lifted g l i →
+    (input : List ℕ) → AreBytes input → RunsAsLeftIn p lifted g l i input

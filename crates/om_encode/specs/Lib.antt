@@ -8,7 +8,9 @@ pub mod Headline
 pub mod Fitting
 pub mod Written
 pub mod Encoded
+pub mod Positions
 pub mod Rows
+pub mod TurnedRows
 pub mod Valid
 pub mod DataBytes
 pub mod DataRows

@@ -5,33 +5,17 @@ use Rattle.om_prog.specs.Script.{program_script}
 use Rattle.om_prog.specs.Valid.{IsProgram}
 use Rattle.om_graph.specs.View.{GraphView}
 use Rattle.om_graph.specs.Run.{graph_script}
-use Rattle.om_graph.specs.Kept.{Comes, KeptInBlocks}
+use Rattle.om_graph.specs.Kept.{KeptInBlocks}
 use Rattle.om_graph.specs.Lifted.{IsLifted}
 use Rattle.om_graph.specs.OfProgram.{IsGraphOf}
 use Rattle.om_image.specs.declared.image.Image.{Image}
 use Rattle.om_image.specs.Valid.{IsValidImage}
 use Rattle.om_lockstep.specs.Lockstep.{AreBytes, InLockstep}
 use Rattle.om_layout.specs.Layout.{LayoutView}
-use Rattle.om_layout.specs.Facts.{LaysOut}
 use Rattle.om_encode.specs.Halves.{addresses_of}
-use Rattle.om_encode.specs.TrueMap.{IsMapIn, IsTrueMap}
+use Rattle.om_encode.specs.TrueMap.{IsTrueMap}
 
--- an image holds a graph of a program, in a layout of any order of words
-pub record Encodes (p : ProgramView) (g : GraphView) (l : LayoutView) (i : Image) : Type 0 where
-  pub program : IsProgram p
-  pub graph : IsGraphOf p g
-  pub kept : KeptInBlocks g
-  pub layout : LaysOut p g l (Comes g)
-  pub map : IsMapIn p g l i
-  pub valid : IsValidImage i
-
--- then it runs in lockstep with the graph
-abbrev pub EncodedGraphsRun : Type 0
-EncodedGraphsRun =
-    (p : ProgramView) (g : GraphView) (l : LayoutView) (i : Image) → Encodes p g l i → (input : List ℕ) →
-    AreBytes input → InLockstep (graph_script p g) (addresses_of p g l) i input
-
--- so does an image whose map is true
+-- with the graph, in whatever order its words stand
 abbrev pub TrueMapsRun : Type 0
 TrueMapsRun =
     (p : ProgramView) (g : GraphView) (l : LayoutView) (i : Image) → IsProgram p → IsGraphOf p g → KeptInBlocks g →

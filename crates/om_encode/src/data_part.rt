@@ -1,8 +1,9 @@
 //! The data of an image, and what its map says of it.
 ghost use Rattle.std.specs.Prelude.{◌≡◌, IfOk, All};
 ghost use Rattle.om_prog.specs.Valid.{IsProgram};
+ghost use Rattle.om_graph.specs.Kept.{Comes};
 ghost use Rattle.om_graph.specs.OfProgram.{IsGraphOf};
-ghost use Rattle.om_layout.specs.Order.{IsLayoutOf};
+ghost use Rattle.om_layout.specs.Facts.{LaysOut};
 ghost use Rattle.om_layout.specs.Limits.{IsWithinLimits};
 ghost use Rattle.om_encode.specs.Data.{DataIsTrue, DistanceFits};
 ghost use Rattle.om_encode.specs.DataBytes.{data_image, data_bytes as data_bytes_of};
@@ -52,7 +53,7 @@ pub(crate) fn encode_data(
     layout: &Layout,
 ) -> Result<DataPart, NoMemory>
     requires graph { IsGraphOf program.now graph.now }
-    requires layout { IsLayoutOf program.now graph.now layout.now }
+    requires layout { LaysOut program.now graph.now layout.now (Comes graph.now) }
     requires limits { IsWithinLimits program.now }
     ensures data_part { IfOk result (λ d. DataIsTrue program.now graph.now layout.now (data_image d)) }
     ensures program { IsProgram program.now }

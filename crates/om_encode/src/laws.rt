@@ -1,16 +1,13 @@
 // The laws of the encoder. Each function does nothing when it is called: its contract is a law on the definitions in specs/.
-ghost use Rattle.om_encode.specs.Runs.{EncodedGraphsRun, TrueMapsRun, LiftedImagesRun};
+ghost use Rattle.om_encode.specs.Runs.{TrueMapsRun, LiftedImagesRun};
 ghost use Rattle.om_encode.specs.Headline.{CountedGivesHeadline, LockstepGivesHeadline, FollowsAndRuns, LinkedImagesRun};
-ghost use Rattle.om_encode.specs.Fitting.{FitsInEveryLayout};
+ghost use Rattle.om_encode.specs.Fitting.{FitsInEveryLayout, ReachedBranchesFit};
 ghost use Rattle.om_encode.specs.Rows.{TheImageRuns};
+ghost use Rattle.om_encode.specs.TurnedRows.{TurnedWordsRun};
 ghost use Rattle.om_encode.specs.Valid.{TrueMapsAreValid};
 
-/// A valid image that holds a graph of a program, in a layout of any order of words, runs in lockstep with the graph.
-pub fn encoded_graphs_run()
-    ensures { EncodedGraphsRun }
-{}
-
-/// So does a valid image whose map is true of the graph.
+/// A valid image whose map is true of a graph of a program, in whatever order its words stand, runs in lockstep with the
+/// graph.
 pub fn true_maps_run()
     ensures { TrueMapsRun }
 {}
@@ -41,14 +38,24 @@ pub fn linked_images_run()
     ensures { LinkedImagesRun }
 {}
 
-/// In every layout of a graph slots, pairs and distances fit their fields, and so do branches that are in reach.
+/// In every layout of a graph slots, pairs and distances fit their fields.
 pub fn fits_in_every_layout()
     ensures { FitsInEveryLayout }
+{}
+
+/// In order of object and offset so do branches that are in reach.
+pub fn reached_branches_fit()
+    ensures { ReachedBranchesFit }
 {}
 
 /// A worked image meets all that these laws ask for, so that they say something.
 pub fn worked_image_runs()
     ensures { TheImageRuns }
+{}
+
+/// So does one whose words stand in another order, and the encoder takes its graph.
+pub fn turned_words_run()
+    ensures { TurnedWordsRun }
 {}
 
 /// Within the limits of a link an image with a true map breaks no rule of images.

@@ -3,8 +3,6 @@
 #![tactic(auto)]
 
 mod data_part;
-#[cfg(test)]
-mod data_tests;
 mod distances;
 mod encoding;
 mod filling;
@@ -15,16 +13,15 @@ mod map_walk;
 mod mapping;
 mod numbering;
 mod ops;
+mod positions;
 mod ranges;
 mod text_part;
-#[cfg(test)]
-mod text_tests;
 mod text_walk;
 mod words;
 
 pub use encoding::encode_image;
 pub use laws::{
-    counted_gives_headline, encoded_graphs_run, fits_in_every_layout, follows_and_runs,
-    lifted_images_run, linked_images_run, lockstep_gives_headline, true_maps_are_valid,
-    true_maps_run, worked_image_runs,
+    counted_gives_headline, fits_in_every_layout, follows_and_runs, lifted_images_run,
+    linked_images_run, lockstep_gives_headline, reached_branches_fit, true_maps_are_valid,
+    true_maps_run, turned_words_run, worked_image_runs,
 };

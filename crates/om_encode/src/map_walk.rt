@@ -1,5 +1,5 @@
-// The words of a map: what became of each word of the program.
-ghost use Rattle.std.specs.Prelude.{◌≡◌, ◌+◌, ◌<◌, ◌^◌, ◌++◌, IfOk};
+// The words of a map, of which none is marked as kept yet.
+ghost use Rattle.std.specs.Prelude.{◌≡◌, ◌++◌, IfOk};
 ghost use Rattle.om_prog.specs.View.{text_of};
 ghost use Rattle.om_prog.specs.Valid.{IsProgram};
 ghost use Rattle.om_encode.specs.Encoded.{told_word, told_words, told_texts};
@@ -11,20 +11,14 @@ use om_prog::{Item, Program};
 use om_value::Place;
 use std::alloc::Global;
 
-// What the map says of a word. A word is kept where the place behind it has another position.
+// What the map says of a word that is not kept.
 fn word_at(layout: &Layout, at: Place, item: Item) -> MapWord
-    requires { at.off + 4 < 2 ^ 32 }
     ensures { result ≡ told_word layout.now at item }
 {
-    let behind = Place {
-        obj: at.obj,
-        off: at.off + 4,
-    };
-    let position = layout.position(at);
     MapWord {
         old: item.word,
-        position,
-        kept: position < layout.position(behind),
+        position: layout.position(at),
+        kept: false,
     }
 }
 

@@ -3,6 +3,7 @@ ghost use Rattle.std.specs.Prelude.{IfOk};
 ghost use Rattle.om_encode.specs.Encoded.{IsEncodable, IsTextOf, AreMapWords};
 
 use crate::map_walk::map_words_of;
+use crate::positions::{Placing, put_words};
 use crate::text_walk::text_of;
 use om_graph::Graph;
 use om_image::MapWord;
@@ -32,8 +33,16 @@ pub(crate) fn encode_text(
     ensures text { IfOk result (λ part. IsTextOf program.now graph.now layout.now part.text) }
     ensures words { IfOk result (λ part. AreMapWords program.now graph.now layout.now part.words) }
 {
-    let text = text_of(alloc, graph, program, layout)?;
+    let listed = text_of(alloc, graph, program, layout)?;
+    let text = vec![in alloc; 0; listed.len()]?;
     let words = map_words_of(alloc, program, layout)?;
+    let mut placing = Placing {
+        text,
+        words,
+        count: 0,
+    };
+    put_words(graph, layout, listed.as_slice(), &mut placing);
+    let Placing { text, words, .. } = placing;
     Ok(TextPart {
         text: Listed::from_vec(text),
         words: Listed::from_vec(words),

@@ -95,7 +95,7 @@ fn write_block(
     Ok(())
 }
 
-/// The text of an image: a word for each kept one, in order.
+/// The image words of the kept words, in order of object and offset.
 pub(crate) fn text_of(
     alloc: Global,
     graph: &Graph,

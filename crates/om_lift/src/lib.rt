@@ -6,8 +6,6 @@ mod lifting;
 mod marks;
 mod places;
 mod roots;
-#[cfg(test)]
-mod tests;
 mod words;
 
 pub use lifting::lift_program;

@@ -1,6 +1,7 @@
 -- What objects are answered with.
 use Rattle.std.proofs.Common.{◌≡◌, List, None}
 use Rattle.std.specs.Prelude.{Err}
+use Rattle.om_alpha.specs.declared.op.Level.{Level}
 use Rattle.om_layout.specs.Limits.{IsWithinLimits}
 use Rattle.om_object.specs.declared.parts.Parts.{Parts}
 use Rattle.om_resolve.specs.Causes.{Blames, first_cause}
@@ -17,10 +18,10 @@ within_limits objects uncaused =
     record { objects = f.texts; words = f.words; sizes = f.sizes; regions = f.regions }
 
 -- objects that have none
-pub blamed : (objects : List Parts) (e : ResolveErr) → Blames (first_cause objects) e → Links objects (Err (link_err e))
-blamed objects NoMemory h = tt
-blamed objects (Duplicate name a b) h = h
-blamed objects (Unresolved name file) h = h
-blamed objects (Rule file rule at) h = h
-blamed objects (Limit which total) h = h
-blamed objects (TooFar from words) h = h
+pub blamed : (at : Level) (objects : List Parts) (e : ResolveErr) → Blames (first_cause objects) e → Links at objects (Err (link_err e))
+blamed k objects NoMemory h = tt
+blamed k objects (Duplicate name a b) h = h
+blamed k objects (Unresolved name file) h = h
+blamed k objects (Rule file rule at) h = h
+blamed k objects (Limit which total) h = h
+blamed k objects (TooFar from words) h = h

@@ -1,4 +1,10 @@
 pub mod Reach
+pub mod OwnNumbers
+pub mod OwnSlots
 pub mod Lifted
 pub mod Images
+pub mod SourceWords
+pub mod OneLayout
+pub mod Numbered
+pub mod OneImage
 pub mod Answered

@@ -1,9 +1,14 @@
-// What follows for runs of linked images. The function does nothing when it is called: its contract is a law on the
+// What follows for linked images. Each function does nothing when it is called: its contract is a law on the
 // definitions in specs/, proved for all programs and images.
-ghost use Rattle.om_link.specs.Laws.{PlainImagesRun};
+ghost use Rattle.om_link.specs.Laws.{LinkedImagesRun, OnePlainImage};
 
-/// A plain image of a program runs in lockstep with it: while the program shows no address, both write the same, take the
-/// same of the input, and end in the same way. So the image keeps what is promised of every linked program.
-pub fn plain_images_run()
-    ensures { PlainImagesRun }
+/// A linked image runs as its program does: while the program shows no address, both have written the same after counted
+/// steps, have taken the same of the input, and end in the same way. A plain image runs in lockstep with its program.
+pub fn linked_images_run()
+    ensures { LinkedImagesRun }
+{}
+
+/// Data and text of a plain image follow from the program alone: all plain images of the same objects have equal bytes.
+pub fn one_plain_image()
+    ensures { OnePlainImage }
 {}

@@ -3,8 +3,6 @@
 
 mod laws;
 mod linking;
-#[cfg(test)]
-mod tests;
 
-pub use laws::plain_images_run;
+pub use laws::{linked_images_run, one_plain_image};
 pub use linking::{LinkErr, Linked, link};

@@ -2,7 +2,8 @@
 ghost use Rattle.std.specs.Prelude.{◌≡◌, ◌<◌, ◌^◌, length, IfOk};
 ghost use Rattle.om_layout.specs.Limits.{IsWithinLimits};
 ghost use Rattle.om_prog.specs.Valid.{IsProgram};
-ghost use Rattle.om_link.specs.Plain.{BranchesReach, IsPlainImage};
+ghost use Rattle.om_counted.specs.Levels.{IsImageAt};
+ghost use Rattle.om_link.specs.Plain.{BranchesReach};
 ghost use Rattle.om_link.specs.Links.{Links, link_err};
 
 use om_alpha::Level;
@@ -49,7 +50,7 @@ fn image_of(alloc: Global, program: &Program) -> Result<Image, NoMemory>
     requires program { IsProgram program.now }
     requires limits { IsWithinLimits program.now }
     requires reach { BranchesReach program.now }
-    ensures { IfOk result (λ i. IsPlainImage program.now i) }
+    ensures { IfOk result (λ i. IsImageAt Level.Plain program.now i) }
 {
     let graph = lift_program(alloc, program)?;
     let layout = lay(alloc, &graph, program)?;
@@ -60,7 +61,7 @@ fn image_of(alloc: Global, program: &Program) -> Result<Image, NoMemory>
 // Links objects without rewriting.
 fn link_plain(alloc: Global, objects: &[Object]) -> Result<Linked, LinkErr>
     requires { length objects.now < 2 ^ 32 }
-    ensures { Links objects.now result }
+    ensures { Links Level.Plain objects.now result }
 {
     let program = match resolve(alloc, objects) {
         Ok(program) => program,
@@ -79,13 +80,13 @@ fn link_plain(alloc: Global, objects: &[Object]) -> Result<Linked, LinkErr>
 /// Links objects, which are numbered from 0 in their order, to one image. So far at the plain level alone, which keeps
 /// each word as it was and gives each object an address table of its own.
 ///
-/// The image runs as the objects' program does (see `plain_images_run`). `Resolve` comes exactly where the objects are no
+/// The image runs as the objects' program does (see `linked_images_run`). `Resolve` comes exactly where the objects are no
 /// program, with the first cause, as `resolve` answers it. `NoMemory` comes where memory runs out, and can take the place
 /// of every other answer. Takes time near-linear in the symbols, relocations, words and fields.
 pub fn link(alloc: Global, objects: &[Object], level: Level) -> Result<Linked, LinkErr>
     requires objects { length objects.now < 2 ^ 32 }
     requires level { level ≡ Level.Plain }
-    ensures { Links objects.now result }
+    ensures { Links level objects.now result }
 {
     match level {
         Level::Plain => link_plain(alloc, objects),

@@ -11,13 +11,6 @@ overflow_mul-at c =
     let t = c.loop-word-test.true in
     omega (arith, f, e, t)
 
-pub word_at-requires : goal.word_at-requires
-word_at-requires c =
-    let f = few_words c.args.program.now c.requires c.args.obj in
-    let e = c.words-word-end.ensures in
-    let t = c.loop-word-test.true in
-    omega (arith, f, e, t)
-
 pub loop-word-preserved : goal.loop-word-preserved
 loop-word-preserved c =
     let e = c.words-word-end.ensures in

@@ -1,0 +1,11 @@
+pub mod Held
+pub mod Lists
+pub mod Runs
+pub mod Calls
+pub mod Told
+pub mod Openings
+pub mod Counting
+pub mod Counts
+pub mod Natural
+pub mod Images
+pub mod Rows
