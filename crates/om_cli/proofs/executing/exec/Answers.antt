@@ -1,5 +1,0 @@
-use Rattle.om_cli.proofs.ExecTelling.{exec_answers}
-use Rattle.om_cli.proofs.executing.exec.Goals as goal
-
-pub returns : goal.returns
-returns g c = exec_answers _ _ _ _ _ _ _ c.execute-stop.ensures c.report_exec.ensures
