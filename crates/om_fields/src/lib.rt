@@ -16,8 +16,6 @@ mod headers;
 mod reading;
 mod sections;
 mod tables;
-#[cfg(test)]
-mod tests;
 mod writing;
 
 pub use extents::{Extent, add_loaded, is_out_of_place};

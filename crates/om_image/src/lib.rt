@@ -12,10 +12,6 @@ mod part;
 mod reading;
 mod round_trip;
 mod shape;
-#[cfg(test)]
-mod test_files;
-#[cfg(test)]
-mod tests;
 mod widths;
 mod writing;
 

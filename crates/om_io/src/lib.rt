@@ -24,8 +24,6 @@ mod schedule;
 mod sink;
 mod source;
 mod store;
-#[cfg(test)]
-mod tests;
 
 pub use adapters::{StdSink, StdSource};
 pub use bytes::{Bytes, Name};

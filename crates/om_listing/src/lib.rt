@@ -6,10 +6,6 @@ mod listing;
 mod names;
 mod page;
 mod sending;
-#[cfg(test)]
-mod test_tables;
-#[cfg(test)]
-mod tests;
 mod texts;
 
 pub use listing::list;

@@ -11,8 +11,6 @@ mod machine;
 mod memory;
 mod requests;
 mod streams;
-#[cfg(test)]
-mod tests;
 
 pub use laws::runs_only_write;
 pub use machine::{Machine, Step};

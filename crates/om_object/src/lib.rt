@@ -6,14 +6,10 @@ pub mod entry;
 mod errors;
 mod faults;
 mod file_parts;
-#[cfg(test)]
-mod file_tests;
 mod flags;
 mod heads;
 pub mod kinds;
 mod lituse;
-#[cfg(test)]
-mod made_tests;
 mod making;
 mod object;
 mod origin;
@@ -23,16 +19,8 @@ mod rules;
 mod sections;
 mod shared;
 mod symbols;
-#[cfg(test)]
-mod table_tests;
 mod tables;
-#[cfg(test)]
-mod test_files;
 mod text;
-#[cfg(test)]
-mod tool_files;
-#[cfg(test)]
-mod tool_tests;
 pub mod words;
 
 pub use errors::{MakeErr, ObjErr};

@@ -7,8 +7,6 @@ mod relocations;
 mod round_trip;
 mod sections;
 mod symbols;
-#[cfg(test)]
-mod tests;
 mod widths;
 mod writing;
 

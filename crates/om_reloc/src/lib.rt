@@ -8,8 +8,6 @@
 
 mod reading;
 mod reloc;
-#[cfg(test)]
-mod tests;
 
 pub use reading::{is_over, read_relocs, read_relocs_early, table_is_past};
 pub use reloc::{Reloc, RelocKind};

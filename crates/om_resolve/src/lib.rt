@@ -14,10 +14,6 @@ mod regions;
 mod resolving;
 mod roles;
 mod scans;
-#[cfg(test)]
-mod test_objects;
-#[cfg(test)]
-mod tests;
 mod texts;
 mod totals;
 

@@ -13,8 +13,6 @@ mod memory;
 mod requests;
 mod starting;
 mod streams;
-#[cfg(test)]
-mod tests;
 
 pub use laws::{runs_are_steps, runs_only_write};
 pub use machine::{SymRun, SymStep};

@@ -10,8 +10,6 @@ mod class;
 mod reading;
 mod symbol;
 mod symbol_rules;
-#[cfg(test)]
-mod tests;
 
 pub use class::{is_common, is_defining, is_naming, section_of_class};
 pub use reading::{read_symbols, symbols};

@@ -12,8 +12,6 @@ mod laws;
 mod matching;
 mod numeral;
 mod reading;
-#[cfg(test)]
-mod tests;
 
 pub use command::Command;
 pub use errors::WordsErr;
