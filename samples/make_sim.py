@@ -7,8 +7,9 @@ data.o  33,554,432 bytes of `.data`, the most that a program can have, and a tex
 import os
 import sys
 
-sys.path.insert(0, os.path.join(os.path.dirname(os.path.abspath(__file__)), "../crates/om_cli/objects"))
-from generate import Object
+sys.dont_write_bytecode = True
+sys.path.insert(0, os.path.join(os.path.dirname(os.path.abspath(__file__)), "../crates/om_rows_commands/objects"))
+from generate import Object  # noqa: E402
 
 LOOP = """
     pair r27

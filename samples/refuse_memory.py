@@ -1,7 +1,7 @@
 #!/usr/bin/env python3
 """Refuses each request of om for memory in turn: refuse_memory.py [OM]
 
-Links and runs at the plain level three programs of the tests: three words that exit with 7, two objects that print a line, and two
+Links and runs at the plain level three programs of the rows: three words that exit with 7, two objects that print a line, and two
 objects with a call between them. Each call is made as often as it asks for memory, and once more; each time another request is
 refused, by functions that stand in front of the C library's. A call has to answer as it does with ample memory, or with status
 8 and `no memory`; and a link that is refused must not have saved anything. Needs the program that the gate built, and gcc.
@@ -13,7 +13,7 @@ import tempfile
 
 TOP = os.path.dirname(os.path.dirname(os.path.abspath(__file__)))
 sys.dont_write_bytecode = True
-sys.path.insert(0, os.path.join(TOP, "crates/om_cli/objects"))
+sys.path.insert(0, os.path.join(TOP, "crates/om_rows_commands/objects"))
 from generate import FILES  # noqa: E402
 
 SHIM = r"""
