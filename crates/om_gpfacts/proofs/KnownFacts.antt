@@ -13,8 +13,9 @@ use Rattle.om_blocks.specs.IsFlow.{HasFlow}
 use Rattle.om_blocks.specs.Found.{facts_in}
 use Rattle.om_blocks.specs.Laws.{entry_table}
 use Rattle.om_blocks.proofs.Entering.{entering}
-use Rattle.om_gpfacts.specs.Exact.{AreExact}
+use Rattle.om_gpfacts.specs.Exact.{IsMixed, AreExact}
 use Rattle.om_gpfacts.specs.OneTable.{IsLowHalf, HasOneTable, PairsLeave}
+use Rattle.om_gpfacts.proofs.Exactness.{not_table, one_table}
 
 set_low : (c : Script) (w : Word) (a : Act) → IsLowHalf a → set_fact c w a ≡ Table (c.table w.at.obj)
 set_low c w (act.GpLo ra rb hi) h = refl
@@ -97,7 +98,9 @@ module _ (p : ProgramView) (g : GraphView) (flow : HasFlow g) (one : HasOneTable
       not_both : (z : Fact) → z ≡ Table t → z ≡ Any → ⊥
       not_both z e a = cc
 
+  not_one : (b : Block) → IsMixed c g b → ⊥
+  not_one b (inl r) = not_table t (one_walk b Unknown r)
+  not_one b (inr m) = m.4 (one_table m.0 m.1 t (one_walk b (Table m.0) m.2) (one_walk b (Table m.1) m.3))
+
   pub none_unknown : (facts : List FoundFact) → AreExact g facts → (b : Block) → Has g.blocks b → facts_in g facts b.label ≡ Unknown → ⊥
-  none_unknown facts exact b h e =
-      let k = ((exact.exact p b h).unknown).0 e in
-      k.0 (λ y r. k.1 t (record { some = subst (λ (z : Fact). ReachesBlock c g b z) (one_walk b y r) r; each = one_walk b }))
+  none_unknown facts exact b h e = not_one b (((exact.exact p b h).unknown).0 e)

@@ -1,3 +1,4 @@
+pub mod Copying
 pub mod Exactness
 pub mod OnChecks
 mod KnownFacts

@@ -1,3 +1,4 @@
+pub mod ByLabel
 pub mod Exact
 pub mod OneTable
 pub mod Passing

@@ -1,10 +1,10 @@
 -- Worked facts of the graph of a call: a block that calls, one behind it, and the procedure with its opening pair.
-use Rattle.std.specs.Prelude.{◌≡◌, true, [], ◌∷◌, refl}
+use Rattle.std.specs.Prelude.{◌≡◌, true, false, [], ◌∷◌, refl}
 use Rattle.om_prog.specs.Facts as prog
 use Rattle.om_flow.specs.declared.parts.Fact.TheVariants.{Any, Table, Unknown}
 use Rattle.om_graph.specs.declared.op.OpKind.TheVariants.{GpHi, GpLo}
 use Rattle.om_graph.specs.declared.op.Last.TheVariants.{Fall}
-use Rattle.om_graph.specs.View.{Block}
+use Rattle.om_graph.specs.View.{Block, is_live_block, dropped}
 use Rattle.om_graph.specs.Run.{block_words, graph_script}
 use Rattle.om_graph.specs.Checks.{onward}
 use Rattle.om_graph.specs.Rows.{at, empty, calling}
@@ -33,6 +33,16 @@ row_inside = refl
 
 pub row_behind : facts_in calling (Table 0 ∷ Any ∷ []) (at 16) ≡ prog.Unknown
 row_behind = refl
+
+-- a block that was dropped is no kept one, nor is one whose number is still to be given
+pub row_kept : is_live_block calling 1 ≡ true
+row_kept = refl
+
+pub row_dropped : is_live_block (dropped calling 1) 1 ≡ false
+row_dropped = refl
+
+pub row_added : is_live_block calling 4 ≡ false
+row_added = refl
 
 pub row_entry : entry_table calling ≡ 0
 row_entry = refl

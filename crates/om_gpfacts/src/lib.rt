@@ -8,5 +8,5 @@ mod laws;
 
 pub use checks::check;
 pub use facts::{GpFacts, solve};
-pub use laws::facts_are_known;
+pub use laws::{facts_are_known, facts_by_label_are_exact};
 pub use om_flow::Fact;

@@ -11,6 +11,9 @@ use Rattle.om_flow.specs.Masks.{number_at, Reads, Here, Later, MasksSolved}
 use Rattle.om_graph.specs.View.{Block, GraphView, Has}
 use Rattle.om_graph.specs.Held.{IsGraph}
 use Rattle.om_graph.specs.Checks.{ReadsBlock}
+use Rattle.om_graph.specs.Left.{AreExactMasks}
+use Rattle.om_graph.specs.Outs.{outs_of}
+use Rattle.om_graph.proofs.Outs.{are_outs}
 use Rattle.om_blocks.specs.IsFlow.{IsFlow}
 use Rattle.om_blocks.specs.Found.{all_registers, masks_in}
 use Rattle.om_blocks.proofs.OfFlow.{flows_tell, mask_of_block}
@@ -48,3 +51,14 @@ module _ (g : GraphView) (f : Flow) (graph : IsGraph g) (is : IsFlow g f) (masks
 
   pub are_exact : AreExact g masks
   are_exact = record { checked = flows_tell.mask_checked g f masks graph is solved.size solved.checked; exact = exact; bare = bare }
+
+-- ---- by label
+
+pub exact_by_label :
+    (g : GraphView) (masks : List ℕ) → IsGraph g → AreExact g masks →
+    AreExactMasks (masks_in g masks) (outs_of g (masks_in g masks)) g
+exact_by_label g masks graph exact = record {
+  checked = exact.checked;
+  ends = are_outs g graph.blocks (masks_in g masks);
+  only = λ b r h low e. (exact.exact b r h low).0 e;
+}

@@ -15,7 +15,7 @@ pub returns-then-not-at_exit-clause-none : goal.returns-then-not-at_exit-clause-
 returns-then-not-at_exit-clause-none c = λ e p checked.
     let x = a_some (block_of c.args.g.now c.args.b) c.requires.live in
     let hx = found_block c.args.g.now.blocks c.args.b x.0 x.1 in
-    let r = read_is c.args.g.now c.requires.graph c.requires.flow c.args.f.now x.0 c.args.b c.last-last.result c.effect_of.result c.fact.result x.1 c.last-last.ensures c.fact.ensures c.effect_of.ensures.all in
+    let r = read_is c.args.g.now c.requires.graph c.requires.flow c.args.f.now x.0 c.args.b c.last-last.result c.effect_of.result c.fact.result x.1 c.last-last.ensures c.fact.ensures.fact c.effect_of.ensures.all in
     true≢false (sym (c.if-not-at_exit.ensures.1 (λ id s.
     subst (λ (y : Fact). Allows y (get_or c.args.f.now id Unknown)) (sym (c.sent_by-sent.ensures ∙ r.out))
     (led_allows c.args.g.now c.requires.graph c.requires.flow c.args.f.now x.0 c.effect_of.result hx r.does p checked id
@@ -25,7 +25,7 @@ pub returns-then-not-at_fall-clause-none : goal.returns-then-not-at_fall-clause-
 returns-then-not-at_fall-clause-none c = λ e p checked.
     let x = a_some (block_of c.args.g.now c.args.b) c.requires.live in
     let hx = found_block c.args.g.now.blocks c.args.b x.0 x.1 in
-    let r = read_is c.args.g.now c.requires.graph c.requires.flow c.args.f.now x.0 c.args.b c.last-last.result c.effect_of.result c.fact.result x.1 c.last-last.ensures c.fact.ensures c.effect_of.ensures.all in
+    let r = read_is c.args.g.now c.requires.graph c.requires.flow c.args.f.now x.0 c.args.b c.last-last.result c.effect_of.result c.fact.result x.1 c.last-last.ensures c.fact.ensures.fact c.effect_of.ensures.all in
     true≢false (sym (c.if-not-at_fall.ensures.1 (λ id s.
     subst (λ (y : Fact). Allows y (get_or c.args.f.now id Unknown)) (sym (c.sent_by-sent.ensures ∙ r.out))
     (led_allows c.args.g.now c.requires.graph c.requires.flow c.args.f.now x.0 c.effect_of.result hx r.does p checked id
@@ -37,7 +37,7 @@ some_fact a b e = cc
 pub returns-clause-some : goal.returns-clause-some
 returns-clause-some c = λ new e x hx same.
     let here = found_here c.args.g.now c.requires.graph x c.args.b hx same in
-    let r = read_is c.args.g.now c.requires.graph c.requires.flow c.args.f.now x c.args.b c.last-last.result c.effect_of.result c.fact.result here.0 c.last-last.ensures c.fact.ensures c.effect_of.ensures.all in
+    let r = read_is c.args.g.now c.requires.graph c.requires.flow c.args.f.now x c.args.b c.last-last.result c.effect_of.result c.fact.result here.0 c.last-last.ensures c.fact.ensures.fact c.effect_of.ensures.all in
     let out : c.sent_by-sent.result ≡ Out c.args.g.now c.requires.graph c.requires.flow c.args.f.now x c.effect_of.result = c.sent_by-sent.ensures ∙ r.out in
     let exit : c.exit_of-exit.result ≡ last_exit c.args.g.now x.last = c.exit_of-exit.ensures.exit ∙ ap (last_exit c.args.g.now) r.ends in
     let fall : c.fall_of.result ≡ next_fallen c.args.g.now x.id x.last =

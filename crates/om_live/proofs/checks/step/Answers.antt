@@ -13,7 +13,7 @@ pub returns-then-not-covers-clause-none : goal.returns-then-not-covers-clause-no
 returns-then-not-covers-clause-none c = λ e checked.
     let x = a_some (block_of c.args.g.now c.args.b) c.requires.live in
     let hx = found_block c.args.g.now.blocks c.args.b x.0 x.1 in
-    let r = read_is c.args.g.now c.requires.graph c.requires.flow c.args.l.now x.0 c.args.b c.last-last.result c.effect_of-effect.result c.mask-mask.result x.1 c.last-last.ensures c.mask-mask.ensures c.effect_of-effect.ensures.all in
+    let r = read_is c.args.g.now c.requires.graph c.requires.flow c.args.l.now x.0 c.args.b c.last-last.result c.effect_of-effect.result c.mask-mask.result x.1 c.last-last.ensures c.mask-mask.ensures.mask c.effect_of-effect.ensures.all in
     true≢false (sym (c.if-not-covers.ensures.1
     (subst (λ (m : ℕ). Covers m c.effect_of-effect.result.reads 0) (sym r.mask)
     (own_covers c.args.g.now c.requires.graph c.requires.flow c.args.l.now x.0 c.effect_of-effect.result hx r.does checked))))
@@ -22,7 +22,7 @@ pub returns-then-not-at_exit-clause-none : goal.returns-then-not-at_exit-clause-
 returns-then-not-at_exit-clause-none c = λ e checked.
     let x = a_some (block_of c.args.g.now c.args.b) c.requires.live in
     let hx = found_block c.args.g.now.blocks c.args.b x.0 x.1 in
-    let r = read_is c.args.g.now c.requires.graph c.requires.flow c.args.l.now x.0 c.args.b c.last-last.result c.effect_of-effect.result c.mask-mask.result x.1 c.last-last.ensures c.mask-mask.ensures c.effect_of-effect.ensures.all in
+    let r = read_is c.args.g.now c.requires.graph c.requires.flow c.args.l.now x.0 c.args.b c.last-last.result c.effect_of-effect.result c.mask-mask.result x.1 c.last-last.ensures c.mask-mask.ensures.mask c.effect_of-effect.ensures.all in
     true≢false (sym (c.if-not-at_exit.ensures.1 (λ id s.
     subst (λ (m : ℕ). Covers m (get_or c.args.l.now id all_registers) c.effect_of-effect.result.writes) (sym r.mask)
     (led_covers c.args.g.now c.requires.graph c.requires.flow c.args.l.now x.0 c.effect_of-effect.result hx r.does checked id
@@ -32,7 +32,7 @@ pub returns-then-not-at_fall-clause-none : goal.returns-then-not-at_fall-clause-
 returns-then-not-at_fall-clause-none c = λ e checked.
     let x = a_some (block_of c.args.g.now c.args.b) c.requires.live in
     let hx = found_block c.args.g.now.blocks c.args.b x.0 x.1 in
-    let r = read_is c.args.g.now c.requires.graph c.requires.flow c.args.l.now x.0 c.args.b c.last-last.result c.effect_of-effect.result c.mask-mask.result x.1 c.last-last.ensures c.mask-mask.ensures c.effect_of-effect.ensures.all in
+    let r = read_is c.args.g.now c.requires.graph c.requires.flow c.args.l.now x.0 c.args.b c.last-last.result c.effect_of-effect.result c.mask-mask.result x.1 c.last-last.ensures c.mask-mask.ensures.mask c.effect_of-effect.ensures.all in
     true≢false (sym (c.if-not-at_fall.ensures.1 (λ id s.
     subst (λ (m : ℕ). Covers m (get_or c.args.l.now id all_registers) c.effect_of-effect.result.writes) (sym r.mask)
     (led_covers c.args.g.now c.requires.graph c.requires.flow c.args.l.now x.0 c.effect_of-effect.result hx r.does checked id
@@ -44,7 +44,7 @@ some_mask a b e = cc
 pub returns-clause-some : goal.returns-clause-some
 returns-clause-some c = λ new e x hx same.
     let here = found_here c.args.g.now c.requires.graph x c.args.b hx same in
-    let r = read_is c.args.g.now c.requires.graph c.requires.flow c.args.l.now x c.args.b c.last-last.result c.effect_of-effect.result c.mask-mask.result here.0 c.last-last.ensures c.mask-mask.ensures c.effect_of-effect.ensures.all in
+    let r = read_is c.args.g.now c.requires.graph c.requires.flow c.args.l.now x c.args.b c.last-last.result c.effect_of-effect.result c.mask-mask.result here.0 c.last-last.ensures c.mask-mask.ensures.mask c.effect_of-effect.ensures.all in
     let mask : c.mask-mask.result ≡ Mask c.args.g.now c.requires.graph c.requires.flow c.args.l.now x = r.mask in
     let exit : c.exit_of-exit.result ≡ last_exit c.args.g.now x.last = c.exit_of-exit.ensures.exit ∙ ap (last_exit c.args.g.now) r.ends in
     let fall : c.fall_of.result ≡ next_fallen c.args.g.now x.id x.last =
