@@ -1,5 +1,6 @@
 pub mod Counts
 pub mod Fresh
+pub mod LocalUses
 pub mod Near
 pub mod Nodes
 pub mod Reading

@@ -5,3 +5,5 @@ pub mod Readers
 pub mod Installed
 pub mod Results
 pub mod Near
+pub mod LocalUses
+pub mod Rows

@@ -10,5 +10,5 @@ mod scans;
 mod tables;
 mod uses;
 
-pub use laws::edits_stay_near;
+pub use laws::{edits_stay_near, readers_are_local_uses};
 pub use uses::Uses;
