@@ -99,7 +99,24 @@ fn saved(
     format!(in alloc; "; saved {name} {} {text}", bytes.len())
 }
 
-// The files that are not as they were, of those that the words of a line or the row name.
+// The files that a call may have saved: those whose names are words of the lines, those of the row, and `p`.
+fn watched<'a>(
+    alloc: Global,
+    outside: &'a Outside,
+    words: &'a str,
+) -> Result<Vec<&'a str>, AllocError> {
+    let mut names = Vec::new(alloc);
+    for word in words.split_ascii_whitespace() {
+        names.push(word)?;
+    }
+    for (name, _) in &outside.files {
+        names.push(name.as_str())?;
+    }
+    names.push("p")?;
+    Ok(names)
+}
+
+// Those of them that are not as they were.
 fn changes(
     alloc: Global,
     outside: &Outside,
@@ -107,13 +124,14 @@ fn changes(
     lines: &str,
 ) -> Result<String, AllocError> {
     let mut text = String::new(alloc);
-    let lines = lines.replace(alloc, ";", " ")?;
+    let words = lines.replace(alloc, ";", " ")?;
+    let names = watched(alloc, outside, words.as_str())?;
     let mut told = Vec::new(alloc);
-    for name in lines.as_str().split_ascii_whitespace() {
-        if told.contains(&name) {
+    for name in &names {
+        if told.contains(name) {
             continue;
         }
-        told.push(name)?;
+        told.push(*name)?;
         let now = store.inner.file(name);
         if now != outside.file(name) {
             text.push_str(saved(alloc, name, now.unwrap_or(&[]), outside.part)?.as_str())?;

@@ -18,23 +18,38 @@ fn words_of(alloc: Global, text: &str) -> Result<Vec<u32>, Bad> {
     Ok(words)
 }
 
+// The machine of these words and bytes of data.
+fn machine_of(alloc: Global, text: &str, bytes: &str) -> Result<Machine, Bad> {
+    let image = image_of(alloc, words_of(alloc, text)?, bytes_of(alloc, bytes)?);
+    Ok(Machine::load(alloc, &image.ok_or(Bad::Text)?)?)
+}
+
+// The source of these bytes, of which these reads fail.
+fn source_of(alloc: Global, bytes: &str, fails: Option<&str>) -> Result<MemSource, Bad> {
+    let bytes = bytes_of(alloc, bytes)?;
+    Ok(MemSource::new(bytes, fails_of(alloc, fails)?))
+}
+
+// The sink of this room, of which these puts fail.
+fn sink_of(alloc: Global, room: u64, fails: Option<&str>) -> Result<MemSink, Bad> {
+    Ok(MemSink::new(alloc, room.min(100_000), fails_of(alloc, fails)?)?)
+}
+
 // The machine of `TEXT DATA INPUT FAILS ROOM FAILS`.
 fn bench_of(alloc: Global, front: &str) -> Result<Bench, Bad> {
     let mut words = front.split_ascii_whitespace();
-    let text = words_of(alloc, text_of(words.next())?)?;
-    let bytes = bytes_of(alloc, text_of(words.next())?)?;
-    let image = image_of(alloc, text, bytes).ok_or(Bad::Text)?;
-    let input = bytes_of(alloc, text_of(words.next())?)?;
-    let input = MemSource::new(input, fails_of(alloc, words.next())?);
-    let room = number_of(words.next())?.min(100_000);
+    let text = text_of(words.next())?;
+    let machine = machine_of(alloc, text, text_of(words.next())?)?;
+    let bytes = text_of(words.next())?;
+    let input = source_of(alloc, bytes, words.next())?;
+    let room = number_of(words.next())?;
     Ok(Bench {
-        machine: Machine::load(alloc, &image)?,
+        machine,
         input,
-        out: MemSink::new(alloc, room, fails_of(alloc, words.next())?)?,
-        err: MemSink::new(alloc, room, Vec::new(alloc))?,
+        out: sink_of(alloc, room, words.next())?,
+        err: sink_of(alloc, room, Some("-"))?,
     })
 }
-
 /// `run TEXT DATA INPUT FAILS ROOM FAILS : ..`: the machine of these words and data, whose input fails at these reads and whose
 /// output has this room and fails at these puts, and what is done with it and asked of it.
 pub fn answer(alloc: Global, text: &str) -> Result<String, Bad> {

@@ -15,12 +15,12 @@ use Rattle.om_resolve.specs.declared.causes.ResolveErr.{ResolveErr}
 use Rattle.om_resolve.specs.declared.causes.ResolveErr.TheVariants as resolving
 use Rattle.om_resolve.specs.Program.{Resolves}
 use Rattle.om_resolve.specs.Causes.{Blames, first_cause}
-use Rattle.om_symrun.specs.Steps.{IsAnswerOf, RunsTo, sym_steps}
+use Rattle.om_symrun.specs.Steps.{Arrives, IsAnswerOf, RunsTo, sym_steps}
 use Rattle.om_symrun.specs.Streams.{Told}
 use Rattle.om_symrun.specs.View.{View}
 use Rattle.om_symrun.specs.declared.machine.SymStep.{SymStep}
 use Rattle.om_symrun.specs.declared.machine.SymStep.TheVariants as step
-use Rattle.om_strength_programs.specs.OneAnswer.{IsSame, IsLike, IsDone}
+use Rattle.om_strength_programs.specs.OneAnswer.{IsSame, IsLike, IsDone, AreOneRun}
 
 pub same_program : (v : ProgramView) (r q : Result ProgramView ProgErr) → MakesProgram v r → MakesProgram v q → IsSame prog.NoMemory r q
 same_program v (Ok p) (Ok q) x y = inl (ap Ok (x.0 ∙ sym y.0))
@@ -87,18 +87,24 @@ the_answer step.ReadFault e d h = absurd d
 the_answer step.WriteFault e d h = absurd d
 the_answer step.NoMemory e d h = absurd d
 
-run_answer : (c : Script) (n : ℕ) (s : SymState) (a : SymStep) (v : View) (left : Option (List ℕ)) (out err : Told)
-    → IsDone a → RunsTo c n a s v left out err → a ≡ answer_to (sym_steps c s n).ended
-run_answer c n s step.Went v left out err d r = the_answer step.Went (sym_steps c s n).ended d r.answer_is
-run_answer c n s (step.Exit status) v left out err d r = the_answer (step.Exit status) (sym_steps c s n).ended d r.answer_is
-run_answer c n s (step.Trap kind at) v left out err d r = the_answer (step.Trap kind at) (sym_steps c s n).ended d r.answer_is
-run_answer c n s (step.Observes at) v left out err d r = the_answer (step.Observes at) (sym_steps c s n).ended d r.answer_is
-run_answer c n s step.ReadFault v left out err d r = absurd d
-run_answer c n s step.WriteFault v left out err d r = absurd d
-run_answer c n s step.NoMemory v left out err d r = absurd d
+-- a run that is done arrives
+arrives : (c : Script) (n : ℕ) (s : SymState) (a : SymStep) (v : View) (left : Option (List ℕ)) (out err : Told)
+    → IsDone a → RunsTo c n a s v left out err → Arrives a (sym_steps c s n) v left out err
+arrives c n s step.Went v left out err d r = r
+arrives c n s (step.Exit status) v left out err d r = r
+arrives c n s (step.Trap kind at) v left out err d r = r
+arrives c n s (step.Observes at) v left out err d r = r
+arrives c n s step.ReadFault v left out err d r = absurd d
+arrives c n s step.WriteFault v left out err d r = absurd d
+arrives c n s step.NoMemory v left out err d r = absurd d
 
 pub same_run : (c : Script) (n : ℕ) (s : SymState) (a b : SymStep) (v w : View) (left rest : Option (List ℕ))
     (out err other_out other_err : Told) → IsDone a → IsDone b → RunsTo c n a s v left out err →
-    RunsTo c n b s w rest other_out other_err → a ≡ b
+    RunsTo c n b s w rest other_out other_err → AreOneRun a b (sym_steps c s n) v w
 same_run c n s a b v w left rest out err other_out other_err d e r q =
-    run_answer c n s a v left out err d r ∙ sym (run_answer c n s b w rest other_out other_err e q)
+    let x = arrives c n s a v left out err d r in
+    let y = arrives c n s b w rest other_out other_err e q in
+    record {
+      answer = the_answer a (sym_steps c s n).ended d x.answer_is ∙ sym (the_answer b (sym_steps c s n).ended e y.answer_is);
+      machine = x.state.machine ∙ sym y.state.machine;
+    }

@@ -12,9 +12,9 @@ use Rattle.om_object.specs.declared.parts.Parts.{Parts}
 use Rattle.om_resolve.specs.declared.causes.ResolveErr.{ResolveErr}
 use Rattle.om_resolve.specs.declared.causes.ResolveErr.TheVariants as resolving
 use Rattle.om_resolve.specs.Program.{Resolves}
-use Rattle.om_symrun.specs.Steps.{RunsTo}
+use Rattle.om_symrun.specs.Steps.{RunsTo, sym_steps}
 use Rattle.om_symrun.specs.Streams.{Told}
-use Rattle.om_symrun.specs.View.{View}
+use Rattle.om_symrun.specs.View.{View, state_of}
 use Rattle.om_symrun.specs.declared.machine.SymStep.{SymStep}
 use Rattle.om_symrun.specs.declared.machine.SymStep.TheVariants as step
 
@@ -48,8 +48,13 @@ IsDone step.WriteFault = ⊥
 IsDone step.NoMemory = ⊥
 IsDone _ = Unit {0}
 
--- what a run from a state answers after n steps is the same, whatever the streams are
+-- two answers are equal, and two machines are in one state
+pub record AreOneRun (a b : SymStep) (t : SymState) (v w : View) : Type 0 where
+  pub answer : a ≡ b
+  pub machine : state_of v t.input t.out t.err ≡ state_of w t.input t.out t.err
+
+-- what a run from a state answers after n steps is the same, and so is the machine's state, whatever the streams are
 pub record OneRun : Type 0 where
   pub same : (c : Script) (n : ℕ) (s : SymState) (a b : SymStep) (v w : View) (left rest : Option (List ℕ))
       (out err other_out other_err : Told) → IsDone a → IsDone b → RunsTo c n a s v left out err →
-      RunsTo c n b s w rest other_out other_err → a ≡ b
+      RunsTo c n b s w rest other_out other_err → AreOneRun a b (sym_steps c s n) v w

@@ -16,7 +16,7 @@ pub fn one_lift()
     ensures { OneLift }
 {}
 
-/// A run of a program has one answer, but for faults and want of memory.
+/// A run of a program has one answer, but for faults and want of memory, and leaves the machine in one state.
 pub fn one_run()
     ensures { OneRun }
 {}
