@@ -54,7 +54,7 @@ class File:
 
     def begins(self, line, name):
         """A definition begins where its type is said, or a record or data; equations go on with it."""
-        return name not in self.lines and bool(re.match(r"^(?: {2}){0,2}(?:(?:abbrev|unfoldable|pub|record|data) )+|^(?: {2}){0,2}[\w'-]+ :", line))
+        return name not in (*self.lines, "record", "data") and bool(re.match(r"^(?: {2}){0,2}(?:(?:abbrev|unfoldable|pub|record|data) )+|^(?: {2}){0,2}[\w'-]+ :", line))
 
     def constructors(self, name):
         """The constructors of a data definition."""
