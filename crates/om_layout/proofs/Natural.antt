@@ -33,10 +33,30 @@ past_end [] k h = refl
 past_end (x ∷ xs) zero h = absurd (omega arith)
 past_end (x ∷ xs) (suc k) h = past_end xs k (omega arith)
 
-module _ (p : ProgramView) (g : GraphView) (l : LayoutView) (lay : IsLayoutOf p g l) (ws : AreWordsOf g.counts (words g)) (G : Place → Type 0) where
-  order : ArePositions G (words g) (words_before (words g))
-  order = in_order G (words g) ws.sorted ws.aligned
+same_test : (q : Place) (w : Word) → w.at.off % 4 ≡ 0 → from_place (rounded_up q) w ≡ from_place q w
+same_test q w a = ap (λ b. (w.at.obj == q.obj) && b) (same_le (q.off) (w.at.off) a)
+  where
+    same_le : (m n : ℕ) → n % 4 ≡ 0 → nat_le ((m + 3) / 4 * 4) n ≡ nat_le m n
+    same_le m n a =
+        let k : (m + 3) / 4 * 4 ≤ n → m ≤ n = λ h. omega arith in
+        let j : m ≤ n → (m + 3) / 4 * 4 ≤ n = λ h. omega arith in
+        grind (arith, nat_tests, k, j)
 
+same_found : (q : Place) (vs : List Word) → ((w : Word) → Has vs w → w.at.off % 4 ≡ 0) → next_word vs (rounded_up q) ≡ next_word vs q
+same_found q [] h = refl
+same_found q (v ∷ vs) h =
+    ap (λ b. cond b (Some v) (next_word vs (rounded_up q))) (same_test q v (h v (inl refl)))
+    ∙ ap (λ o. cond (from_place q v) (Some v) o) (same_found q vs (λ w k. h w (inr k)))
+
+same_next : (g : GraphView) (q : Place) → ((w : Word) → Has (words g) w → w.at.off % 4 ≡ 0) → next_word (words g) (rounded_up q) ≡ next_word (words g) q
+same_next g q aligned = same_found q (words g) aligned
+
+-- a layout whose positions are those of an order, by which words are placed one to one
+module _
+    (g : GraphView) (l : LayoutView) (ws : AreWordsOf g.counts (words g)) (G : Place → Type 0) (position : Place → ℕ) (counts : l.counts ≡ g.counts)
+    (places : length l.positions ≡ place_count g.counts) (positions : (q : Place) → IsPlaceOf g.counts q → position_of l q ≡ position q)
+    (order : ArePositions G (words g) position)
+    (rounded : (q : Place) (w : Word) → G q → next_word (words g) q ≡ Some w → position (rounded_up q) ≡ position w.at) where
   object_is : (w : Word) → Has (words g) w → w.at.obj < length g.counts
   object_is w h = let k = ws.inside w h in some_below g.counts w.at.obj (omega (arith, k))
 
@@ -49,29 +69,14 @@ module _ (p : ProgramView) (g : GraphView) (l : LayoutView) (lay : IsLayoutOf p 
       let k = ws.inside w h in
       record { object = object_is w h; aligned = omega (arith, a); inside = omega (arith, a, k) }
 
-  at_word : (w : Word) → Has (words g) w → position_of l w.at ≡ words_before (words g) w.at
-  at_word w h = lay.positions w.at (word_place w h)
+  at_word : (w : Word) → Has (words g) w → position_of l w.at ≡ position w.at
+  at_word w h = positions w.at (word_place w h)
 
   -- a place and the one that it is rounded up to
   same_rounded : (q : Place) → position_of l (rounded_up q) ≡ position_of l q
   same_rounded q =
       let e : ((q.off + 3) / 4 * 4 + 3) / 4 ≡ (q.off + 3) / 4 = omega arith in
       ap (λ k. slice_index_or l.positions (sum (take q.obj l.counts) + min (slice_index_or l.counts q.obj 0) k + q.obj) 0) e
-
-  same_test : (q : Place) (w : Word) → w.at.off % 4 ≡ 0 → from_place (rounded_up q) w ≡ from_place q w
-  same_test q w a = ap (λ b. (w.at.obj == q.obj) && b) (same_le (q.off) (w.at.off) a)
-    where
-      same_le : (m n : ℕ) → n % 4 ≡ 0 → nat_le ((m + 3) / 4 * 4) n ≡ nat_le m n
-      same_le m n a =
-          let k : (m + 3) / 4 * 4 ≤ n → m ≤ n = λ h. omega arith in
-          let j : m ≤ n → (m + 3) / 4 * 4 ≤ n = λ h. omega arith in
-          grind (arith, nat_tests, k, j)
-
-  same_found : (q : Place) (vs : List Word) → ((w : Word) → Has vs w → w.at.off % 4 ≡ 0) → next_word vs (rounded_up q) ≡ next_word vs q
-  same_found q [] h = refl
-  same_found q (v ∷ vs) h =
-      ap (λ b. cond b (Some v) (next_word vs (rounded_up q))) (same_test q v (h v (inl refl)))
-      ∙ ap (λ o. cond (from_place q v) (Some v) o) (same_found q vs (λ w k. h w (inr k)))
 
   rounded_place : (q : Place) (w : Word) → next_word (words g) q ≡ Some w → IsPlaceOf g.counts (rounded_up q)
   rounded_place q w e =
@@ -89,28 +94,34 @@ module _ (p : ProgramView) (g : GraphView) (l : LayoutView) (lay : IsLayoutOf p 
     where
       by_size : Dec (place_count g.counts ≤ k) → slice_index_or l.positions k 0 ≤ length (words g)
       by_size (yes h) =
-          let n = lay.places in
+          let n = places in
           let z = past_end l.positions k (omega (arith, n, h)) in
           omega (arith, z)
       by_size (no h) =
           let r = every_number g.counts k (omega (arith, h)) in
-          let e : place_number l.counts r.0 ≡ k = ap (λ c. place_number c r.0) lay.data_part.counts ∙ r.2 in
-          let same : slice_index_or l.positions k 0 ≡ words_before (words g) r.0 =
-          ap (λ j. slice_index_or l.positions j 0) (sym e) ∙ lay.positions r.0 r.1 in
-          let m = most_before (words g) r.0 in
+          let e : place_number l.counts r.0 ≡ k = ap (λ c. place_number c r.0) counts ∙ r.2 in
+          let same : slice_index_or l.positions k 0 ≡ position r.0 =
+          ap (λ j. slice_index_or l.positions j 0) (sym e) ∙ positions r.0 r.1 in
+          let m = order.most r.0 in
           omega (arith, same, m)
 
-  pub natural : ArePositions G (words g) (position_of l)
-  natural = record {
+  pub in_positions : ArePositions G (words g) (position_of l)
+  in_positions = record {
     inside = λ w h. let e = at_word w h in let k = order.inside w h in omega (arith, e, k);
     once = λ v w hv hw e. order.once v w hv hw (sym (at_word v hv) ∙ e ∙ at_word w hw);
-    follows = λ w h n. lay.positions (next_place w.at) (next_is_place w h) ∙ order.follows w h n ∙ ap (λ k. k + 1) (sym (at_word w h));
+    follows = λ w h n. positions (next_place w.at) (next_is_place w h) ∙ order.follows w h n ∙ ap (λ k. k + 1) (sym (at_word w h));
     found =
         λ q w good e.
-        let r : next_word (words g) (rounded_up q) ≡ Some w = same_found q (words g) ws.aligned ∙ e in
-        sym (same_rounded q) ∙ lay.positions (rounded_up q) (rounded_place q w e) ∙ found_any (rounded_up q) w r ∙ sym (at_word w (found_has (words g) q w e).0);
+        sym (same_rounded q) ∙ positions (rounded_up q) (rounded_place q w e) ∙ rounded q w good e ∙ sym (at_word w (found_has (words g) q w e).0);
     most = λ q. most_at (place_number l.counts q);
   }
+
+-- the natural order
+module _ (p : ProgramView) (g : GraphView) (l : LayoutView) (lay : IsLayoutOf p g l) (ws : AreWordsOf g.counts (words g)) (G : Place → Type 0) where
+  pub natural : ArePositions G (words g) (position_of l)
+  natural =
+      in_positions g l ws G (words_before (words g)) lay.data_part.counts lay.places lay.positions (in_order G (words g) ws.sorted ws.aligned)
+      (λ q w good e. found_any (rounded_up q) w (same_next g q ws.aligned ∙ e))
     where
       found_any : (q : Place) (w : Word) → next_word (words g) q ≡ Some w → words_before (words g) q ≡ words_before (words g) w.at
       found_any q w e = (in_order (λ q. Unit {0}) (words g) ws.sorted ws.aligned).found q w tt e

@@ -5,5 +5,6 @@ pub mod Placing
 pub mod Order
 pub mod Limits
 pub mod Facts
+pub mod InOrder
 pub mod Laws
 pub mod Rows

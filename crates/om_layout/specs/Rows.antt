@@ -1,6 +1,6 @@
 -- A worked layout: three objects, of which the first and the last share a table, and a table between that no object has;
 -- three regions of one size and a smaller one, of which none is a multiple of 16.
-use Rattle.std.specs.Prelude.{◌≡◌, ℕ, false, List, [], ◌∷◌, map, Some, None, refl}
+use Rattle.std.specs.Prelude.{◌≡◌, ℕ, zero, suc, true, false, not, ◌==◌, List, [], ◌∷◌, map, filter, Some, None, refl}
 use Rattle.om_isa.specs.declared.instr.BrOp.TheVariants.{Br as BrOp}
 use Rattle.om_value.specs.declared.value.Place.{Place}
 use Rattle.om_value.specs.declared.value.Region.TheVariants.{Sec, Common, Stack, Heap}
@@ -8,9 +8,11 @@ use Rattle.om_value.specs.declared.value.Target.{Target}
 use Rattle.om_value.specs.declared.value.Target.TheVariants as target
 use Rattle.om_graph.specs.declared.op.OpKind.TheVariants.{Lit, AddrLda}
 use Rattle.om_graph.specs.declared.op.Last.TheVariants.{Br}
+use Rattle.om_prog.specs.Act.{Word}
 use Rattle.om_graph.specs.View.{GraphView}
 use Rattle.om_graph.specs.Run.{words}
 use Rattle.om_layout.specs.Layout.{LayoutView, data_base, position_of, code_at, region_at, size_at, gp_at, gp_of, slot_at, address_of}
+use Rattle.om_layout.specs.InOrder.{Order, position_in}
 use Rattle.om_layout.specs.Order.{table_count, slots_of, InOrder, PlacedTables, PlacedRegions, tables_end, regions_end, words_before}
 
 abbrev pub at : ℕ → ℕ → Place
@@ -86,6 +88,29 @@ row_positions = refl
 
 pub row_position_values : map (position_of the_layout) all_places ≡ the_layout.positions
 row_position_values = refl
+
+-- the last object's words first: a word that is gone has the position of the next one of its run, and so has a text's end
+abbrev pub object_words : ℕ → List Word
+object_words o = filter (λ w. w.at.obj == o) (words the_graph)
+
+abbrev pub number_of : ℕ → ℕ
+number_of zero = 1
+number_of (suc zero) = 2
+number_of _ = 0
+
+abbrev pub turned : Order
+turned = record {
+  runs = object_words 2 ∷ object_words 0 ∷ object_words 1 ∷ [];
+  run_of = λ q. number_of q.obj;
+  is_placed = λ q. true;
+}
+
+pub row_turned : map (position_in turned) all_places ≡ 2 ∷ 3 ∷ 3 ∷ 4 ∷ 5 ∷ 6 ∷ 6 ∷ 7 ∷ 8 ∷ 0 ∷ 1 ∷ 2 ∷ []
+row_turned = refl
+
+-- a place that is in no run, as a word of a dropped block, has position 0
+pub row_nowhere : position_in (record turned { is_placed = λ q. not (q.obj == 1) }) (at 1 4) ≡ 0
+row_nowhere = refl
 
 -- a slot for each target once, for each table
 pub row_table_count : table_count the_graph.tables ≡ 3

@@ -1,4 +1,5 @@
 // The laws of layouts. Each function does nothing when it is called: its contract is the law.
+ghost use Rattle.om_layout.specs.InOrder.{OrdersPlaceWords};
 ghost use Rattle.om_layout.specs.Laws.{LayoutsPlaceWords, RunsPlaceWords};
 ghost use Rattle.om_layout.specs.Limits.{LayoutsStayInLimits};
 
@@ -10,6 +11,11 @@ pub fn layouts_place_words()
 /// So do runs of words, whatever their order.
 pub fn runs_place_words()
     ensures { RunsPlaceWords }
+{}
+
+/// A layout in any order of runs gives an encoder what the natural one gives.
+pub fn orders_place_words()
+    ensures { OrdersPlaceWords }
 {}
 
 /// Where a program is within the limits of a link, so is every layout of its graphs.
