@@ -11,3 +11,4 @@ pub mod Needs
 pub mod ToldAt
 pub mod Single
 pub mod Highs
+pub mod Blocks

@@ -9,12 +9,12 @@ use Rattle.om_graph.specs.declared.op.OpKind.{OpKind}
 use Rattle.om_prog.specs.Act.{AddrHi}
 use Rattle.om_graph.specs.View.{Node, Block, GraphView, Has, ops_of, replaced, deleted, last_set, dropped}
 use Rattle.om_graph.specs.Held.{IsGraph}
-use Rattle.om_graph.specs.Run.{last_words, graph_script, rev_onto, op_act, op_word, high_target}
+use Rattle.om_graph.specs.Run.{block_words, last_words, graph_script, rev_onto, op_act, op_word, high_target}
 use Rattle.om_graph.specs.Form.{InForm, InPlace}
 use Rattle.om_graph.specs.Fits.{OpsFit}
 use Rattle.om_graph.specs.Kept.{FallsOn}
 use Rattle.om_graph.specs.Checks.{Next, GpChecked, MaskChecked, AreOuts}
-use Rattle.om_checks.specs.Steps.{BecomesDirect, IsEntry, PairOf, OpAt, node_words, ChangesTo, IsDeadHere}
+use Rattle.om_checks.specs.Steps.{BecomesDirect, IsEntry, PairOf, OpAt, node_words, ChangesTo, Changed, OneChanged, IsDeadHere}
 
 -- control does not fall from a kept block into this one
 abbrev pub NoneFallsInto : GraphView → Block → Type 0
@@ -79,3 +79,9 @@ pub record MasksStay : Type 0 where
       op_act (ops_of b) n.op.kind ≡ AddrHi ra rb t → ra < 31 →
       IsDeadHere (node_words (ops_of b) at.behind ++ last_words b.last) (outs b.label)
       (op_word (ops_of b) n.op) → MaskChecked masks g → MaskChecked masks (deleted g n.id)
+  -- words of one block become others, several at once, each of which writes what it wrote and reads
+  -- no more: so a load that becomes LDAH with all of its uses
+  pub words :
+      (masks outs : Place → ℕ → Bool) (g new : GraphView) (b n : Block) → IsGraph g → InForm new →
+      OneChanged g new b n → AreOuts masks outs g → Changed [] (block_words b) (block_words n) →
+      MaskChecked masks g → MaskChecked masks new

@@ -217,3 +217,17 @@ pub record IsEntry (p : ProgramView) (g : GraphView) (facts : Place →
         act = To Bsr ra (next_place (next_place e.label));
       } ∷ []
   pub stays : FallsOn end → ⊥
+
+-- ---- the words of one block
+
+-- one block is another, under its label and with its end, and all else is as it was
+pub record OneChanged (old new : GraphView) (b n : Block) : Type 0 where
+  pub before : List Block
+  pub behind : List Block
+  pub was : old.blocks ≡ before ++ b ∷ behind
+  pub now : new.blocks ≡ before ++ n ∷ behind
+  pub label : n.label ≡ b.label
+  pub last : n.last ≡ b.last
+  pub roots : new.roots ≡ old.roots
+  pub counts : new.counts ≡ old.counts
+  pub tables : new.tables ≡ old.tables

@@ -127,7 +127,8 @@ module _ (p : ProgramView) (gp : ℕ → ℕ) (address : Target → ℕ) where
       (lows : (w : Word) (i : Instr) (hi : Place) (t : Target) → Has (block_words b) w → w.act ≡ act.UseLo i hi t → f w ≡ Some w)
       (highs : (w : Word) (ra rb : ℕ) (t : Target) → Has (block_words b) w → w.act ≡ act.AddrHi ra rb t → IsNamed n w.at → f w ≡ Some w)
       (high_ops : (o : Op) (ra rb : ℕ) (t : Target) (z : ℤ) → Has (ops_of b) o → o.kind ≡ op.AddrHi ra rb t z → IsNamed n o.place → Has (ops_of n) o)
-      (ops : (o : Op) → Has (ops_of n) o → Has (ops_of b) o ⊎ (NoHalf o.kind × OpFits p gp address n o.place o.kind)) (fits : OpsFit p gp address old) where
+      (takes : (o : Op) (ra rb : ℕ) (t : Target) (z y : ℤ) → Has (ops_of b) o → o.kind ≡ op.AddrHi ra rb t z → TakesHigh n o.place y → TakesHigh b o.place y)
+      (ops : (o : Op) → Has (ops_of n) o → Has (ops_of b) o ⊎ OpFits p gp address n o.place o.kind) (fits : OpsFit p gp address old) where
     hb : Has old.blocks b
     hb = old_block one_block
 
@@ -175,30 +176,23 @@ module _ (p : ProgramView) (gp : ℕ → ℕ) (address : Target → ℕ) where
             let same : z ≡ x = unique (block_words b) x z old_order hx hz a in
             no_word (sym g ∙ ap f same ∙ ex)
 
-    takes : (hi : Place) (z : ℤ) → TakesHigh n hi z → TakesHigh b hi z
-    takes hi z (o, i, r, h, k, base) = by_op (ops o h)
-      where
-        by_op : Has (ops_of b) o ⊎ (NoHalf o.kind × OpFits p gp address n o.place o.kind) → TakesHigh b hi z
-        by_op (inl m) = (o, i, r, m, k, base)
-        by_op (inr q) = absurd (subst (λ (x : OpKind). NoHalf x) k q.0)
-
-    one_quotient : (hi : Place) (t : Target) → HaveOneQuotient p gp address b hi t → HaveOneQuotient p gp address n hi t
-    one_quotient hi (target.Ptr r x) q = (q.0, λ z h. q.1 z (takes hi z h))
-    one_quotient hi (target.Num m) q = q
-    one_quotient hi (target.Code c) q = q
+    one_quotient : (hi : Place) (t : Target) → ((y : ℤ) → TakesHigh n hi y → TakesHigh b hi y) → HaveOneQuotient p gp address b hi t → HaveOneQuotient p gp address n hi t
+    one_quotient hi (target.Ptr r x) k q = (q.0, λ z h. q.1 z (k z h))
+    one_quotient hi (target.Num m) k q = q
+    one_quotient hi (target.Code c) k q = q
 
     op_fits : (o : Op) → Has (ops_of n) o → OpFits p gp address n o.place o.kind
     op_fits o h = by_op (ops o h)
       where
-        by_kind : (k : OpKind) → o.kind ≡ k → OpFits p gp address b o.place k → OpFits p gp address n o.place k
-        by_kind (op.Plain i) e g = g
-        by_kind (op.Lit ra rb t) e g = g
-        by_kind (op.AddrLda ra rb t) e g = g
-        by_kind (op.UseGp i gp t) e g = g
-        by_kind (op.GpHi ra rb q) e g = g
-        by_kind (op.GpLo ra rb q) e g = g
-        by_kind (op.AddrHi ra rb t z) e g = (g.0, one_quotient o.place t g.1, g.2)
-        by_kind (op.UseLo i hi) e g =
+        by_kind : Has (ops_of b) o → (k : OpKind) → o.kind ≡ k → OpFits p gp address b o.place k → OpFits p gp address n o.place k
+        by_kind m (op.Plain i) e g = g
+        by_kind m (op.Lit ra rb t) e g = g
+        by_kind m (op.AddrLda ra rb t) e g = g
+        by_kind m (op.UseGp i gp t) e g = g
+        by_kind m (op.GpHi ra rb q) e g = g
+        by_kind m (op.GpLo ra rb q) e g = g
+        by_kind m (op.AddrHi ra rb t z) e g = (g.0, one_quotient o.place t (λ y. takes o ra rb t z y m e) g.1, g.2)
+        by_kind m (op.UseLo i hi) e g =
             let named : IsNamed n hi = record { user = o; instr = i; among = h; kind = e } in
             let d : Word = record { at = hi; act = act.AddrHi g.ra g.rb g.target } in
             let x : Word = record { at = o.place; act = act.UseLo i hi g.target } in
@@ -219,16 +213,39 @@ module _ (p : ProgramView) (gp : ℕ → ℕ) (address : Target → ℕ) where
               within = g.within;
             }
 
-        by_op : Has (ops_of b) o ⊎ (NoHalf o.kind × OpFits p gp address n o.place o.kind) → OpFits p gp address n o.place o.kind
-        by_op (inl m) = by_kind o.kind refl (fits.ops b o hb m)
-        by_op (inr q) = q.1
+        by_op : Has (ops_of b) o ⊎ OpFits p gp address n o.place o.kind → OpFits p gp address n o.place o.kind
+        by_op (inl m) = by_kind m o.kind refl (fits.ops b o hb m)
+        by_op (inr q) = q
 
-    pub block_fits : OpsFit p gp address new
-    block_fits = record { ops = λ m o hm ho. by_block m o ho (new_block one_block m hm) }
+    pub all_fit : OpsFit p gp address new
+    all_fit = record { ops = λ m o hm ho. by_block m o ho (new_block one_block m hm) }
       where
         by_block : (m : Block) (o : Op) → Has (ops_of m) o → (n ≡ m) ⊎ Has old.blocks m → OpFits p gp address m o.place o.kind
         by_block m o ho (inr h) = fits.ops m o h ho
         by_block m o ho (inl e) = subst (λ (x : Block). OpFits p gp address x o.place o.kind) e (op_fits o (subst (λ (x : Block). Has (ops_of x) o) (sym e) ho))
+
+  -- where no new op is a half or a use of one
+  module _ (prog : IsProgram p) (old new : GraphView) (of : IsGraphOf p old) (then : IsGraphOf p new) (b n : Block) (one_block : OneBlock old.blocks new.blocks b n) (f : Word → Option Word)
+      (in_place : (w u : Word) → f w ≡ Some u → u.at ≡ w.at) (words : block_words n ≡ each_word f (block_words b))
+      (lows : (w : Word) (i : Instr) (hi : Place) (t : Target) → Has (block_words b) w → w.act ≡ act.UseLo i hi t → f w ≡ Some w)
+      (highs : (w : Word) (ra rb : ℕ) (t : Target) → Has (block_words b) w → w.act ≡ act.AddrHi ra rb t → IsNamed n w.at → f w ≡ Some w)
+      (high_ops : (o : Op) (ra rb : ℕ) (t : Target) (z : ℤ) → Has (ops_of b) o → o.kind ≡ op.AddrHi ra rb t z → IsNamed n o.place → Has (ops_of n) o)
+      (ops : (o : Op) → Has (ops_of n) o → Has (ops_of b) o ⊎ (NoHalf o.kind × OpFits p gp address n o.place o.kind)) (fits : OpsFit p gp address old) where
+    pub block_fits : OpsFit p gp address new
+    block_fits =
+        all_fit prog old new of then b n one_block f in_place words lows highs high_ops (λ o ra rb t z y m e h. takes o.place y h)
+        (λ o h. fitting o (ops o h)) fits
+      where
+        takes : (hi : Place) (z : ℤ) → TakesHigh n hi z → TakesHigh b hi z
+        takes hi z (o, i, r, h, k, base) = by_op (ops o h)
+          where
+            by_op : Has (ops_of b) o ⊎ (NoHalf o.kind × OpFits p gp address n o.place o.kind) → TakesHigh b hi z
+            by_op (inl m) = (o, i, r, m, k, base)
+            by_op (inr q) = absurd (subst (λ (x : OpKind). NoHalf x) k q.0)
+
+        fitting : (o : Op) → Has (ops_of b) o ⊎ (NoHalf o.kind × OpFits p gp address n o.place o.kind) → Has (ops_of b) o ⊎ OpFits p gp address n o.place o.kind
+        fitting o (inl m) = inl m
+        fitting o (inr q) = inr q.1
 
   -- ---- the edits
 

@@ -51,3 +51,8 @@ pub mod DeadEdits
 pub mod KeptWords
 pub mod WorkedSteps
 pub mod FitsStay
+pub mod Passed
+pub mod FarFits
+pub mod Replaces
+pub mod Cleared
+pub mod Leading

@@ -1,6 +1,7 @@
 -- A load of the address of a pointer made the high half of it, and all of its uses ones of the
 -- half.
-use Rattle.std.specs.Prelude.{◌≡◌, ℕ, ℤ, ◌≤ℤ◌, Bool, true, false, if◌then◌else◌, map, Option, Some}
+use Rattle.std.specs.Prelude.{◌≡◌, ℕ, ℤ, pos, ◌+ℤ◌, ◌-ℤ◌, ◌*ℤ◌, ◌≤ℤ◌, Bool, true, false, if◌then◌else◌, map, Option, Some, FitsSigned}
+use Rattle.std.specs.Int.{w16}
 use Rattle.om_isa.specs.declared.instr.Instr.{Instr}
 use Rattle.om_value.specs.declared.value.Place.{Place}
 use Rattle.om_value.specs.declared.value.Region.{Region}
@@ -14,7 +15,9 @@ use Rattle.om_graph.specs.declared.op.OpKind.{OpKind}
 use Rattle.om_graph.specs.declared.op.OpKind.TheVariants as op
 use Rattle.om_graph.specs.View.{Block, Has, ops_of}
 use Rattle.om_graph.specs.Run.{last_words, block_words}
+use Rattle.om_prog.specs.View.{ProgramView}
 use Rattle.om_graph.specs.Uses.{IsLocalUse, IsBaseUse, IsByteUse}
+use Rattle.om_graph.specs.Fits.{from_gp, IsWithin, IsHighPart}
 
 -- what a far load is, and which places its uses have
 pub record FarLoad : Type 0 where
@@ -92,3 +95,23 @@ module _ (l : FarLoad) where
     pub opening : n.opening ≡ b.opening
     pub last : n.last ≡ b.last
     pub ops : ops_of n ≡ map far_op (ops_of b)
+
+-- in the numbers of a layout the half fits, and each use fits behind it
+module _ (p : ProgramView) (gp : ℕ → ℕ) (address : Target → ℕ) (l : FarLoad) where
+  -- a displacement from the pointer fits behind a high part, and the sum has this quotient by 16
+  pub record FitsBehind (high quotient disp : ℤ) : Type 0 where
+    pub above : (pos 16 *ℤ quotient) ≤ℤ (pos l.offset +ℤ disp)
+    pub below : (pos l.offset +ℤ disp) ≤ℤ ((pos 16 *ℤ quotient) +ℤ pos 15)
+    pub fits :
+        FitsSigned w16 ((from_gp p gp address l.hi.obj (far_target l) +ℤ disp) -ℤ (pos 65536 *ℤ high))
+
+  pub record FitsFar (b : Block) : Type 0 where
+    pub within : IsWithin p gp address (far_target l)
+    -- the high part, by the least displacement
+    pub high : ℤ
+    pub is_high : IsHighPart p gp address l.hi.obj (far_target l) l.least high
+    pub high_fits : FitsSigned w16 high
+    pub quotient : ℤ
+    pub uses :
+        (o : Op) (i : Instr) (z : ℤ) → Has (ops_of b) o → l.use_at o.place ≡ true →
+        o.kind ≡ op.Plain i → IsBaseUse l.ra i z → FitsBehind high quotient z

@@ -32,7 +32,7 @@ use Rattle.om_graph.specs.Uses.{IsLocalUse, IsBaseUse, IsByteUse, IsKnownCall, I
 use Rattle.om_graph.specs.OfProgram.{IsFollowed, CallsTo, MayBePassed, IsLastWriter, CameFromLoad, IsGraphOf}
 use Rattle.om_passes.specs.AtPlaces.{NoHalf}
 use Rattle.om_passes.specs.Blocks.{OneBlock}
-use Rattle.om_passes.specs.Far.{FarLoad, IsFarLoad, IsMadeFar}
+use Rattle.om_passes.specs.Far.{FarLoad, IsFarLoad, IsMadeFar, FitsFar}
 use Rattle.om_graph.specs.Weight.{opens}
 use Rattle.om_passes.specs.Step.{Onward, Rewrites, Step, Steps, Deletion, Deletions}
 use Rattle.om_passes.specs.OneEdit.{MayGoOn, IsOp, IsDead, word_of, IsUnused, NamesNoHalf, HasNoByteUse, LoadsPointer}
@@ -188,11 +188,15 @@ pub record EntriesAreSteps : Type 0 where
       b.last ≡ last.Br at Bsr ra n.label →
       Step p g (last_set g id (last.Br at Bsr ra (next_place (next_place n.label))))
 
--- a pair that is closed in the kept block that begins with it may be passed
+-- a pair that is closed in the kept block that begins with it may be passed, and goes before another block
 pub record OpeningsMayBePassed : Type 0 where
   pub closed :
       (p : ProgramView) (g : GraphView) (b : Block) → IsProgram p → IsGraphOf p g → Has g.blocks b →
       IsClosedOpening g b → MayBePassed p b.label
+  -- a block of the program begins behind it
+  pub behind :
+      (p : ProgramView) (g : GraphView) (b : Block) → IsProgram p → IsGraphOf p g → Has g.blocks b →
+      IsClosedOpening g b → Has g.labels (next_place (next_place b.label))
 
 -- steps in a row, and deletions in a row
 pub record StepsGoOn : Type 0 where
@@ -211,8 +215,7 @@ pub record StepsGoOn : Type 0 where
   pub meaning :
       (p : ProgramView) (a b c : GraphView) → Rewrites p a b → Rewrites p b c → Rewrites p a c
 
--- address ops that fitted fit after an edit, in the same numbers; of a new op it is asked. A far load
--- with its uses is several ops at once: of the graph after it fitting is asked as a whole
+-- address ops that fitted fit after an edit, in the same numbers; of a new op it is asked
 pub record FitsStay (p : ProgramView) (gp : ℕ → ℕ) (address : Target → ℕ) : Type 0 where
   -- an address word that gives no half, or one that no use names
   pub gone :
@@ -232,6 +235,11 @@ pub record FitsStay (p : ProgramView) (gp : ℕ → ℕ) (address : Target → �
   pub without :
       (g : GraphView) (id : ℕ) (b : Block) → IsProgram p → IsGraphOf p g → block_of g id ≡ Some b →
       OpsFit p gp address g → OpsFit p gp address (dropped g id)
+  -- a load with all of its uses, over its high half
+  pub far :
+      (g new : GraphView) (l : FarLoad) (b n : Block) → IsProgram p → IsGraphOf p g →
+      OneBlock g.blocks new.blocks b n → IsFarLoad l b → IsMadeFar l b n → IsGraphOf p new →
+      FitsFar p gp address l b → OpsFit p gp address g → OpsFit p gp address new
 
 abbrev pub OpsStillFit : Type 0
 OpsStillFit = (p : ProgramView) (gp : ℕ → ℕ) (address : Target → ℕ) → FitsStay p gp address

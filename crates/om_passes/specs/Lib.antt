@@ -5,5 +5,7 @@ pub mod Far
 pub mod OneEdit
 pub mod Step
 pub mod Keeping
+pub mod Passed
 pub mod Laws
 pub mod Rows
+pub mod Replaces

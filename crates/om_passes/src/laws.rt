@@ -2,13 +2,15 @@
 ghost use Rattle.om_passes.specs.Laws.{CallsAreSteps, EditsGoOn, EntriesAreSteps, OpsStillFit, OpeningsMayBePassed, PairsAreSteps, PrunesAreSteps, StepsGoOn};
 ghost use Rattle.om_passes.specs.Rows.{WorkedSteps};
 ghost use Rattle.om_passes.specs.Keeping.{LiftedStands, StepsKeep};
+ghost use Rattle.om_passes.specs.Passed.{PassesGoOn};
+ghost use Rattle.om_passes.specs.Replaces.{ReplacesInARow};
 
 /// Each edit that a pass makes leaves a graph of a program one that passes may go on with, and a lighter one.
 pub fn edits_go_on()
     ensures { EditsGoOn }
 {}
 
-/// A pair that is closed in the kept block that begins with it may be passed by calls.
+/// A pair that is closed in the kept block that begins with it may be passed by calls: a block of the program begins behind it.
 pub fn openings_may_be_passed()
     ensures { OpeningsMayBePassed }
 {}
@@ -56,4 +58,14 @@ pub fn worked_steps()
 /// Address ops that fitted in some numbers fit in them after each edit.
 pub fn ops_still_fit()
     ensures { OpsStillFit }
+{}
+
+/// Passes in a row are a pass, and what one leaves passes may go on with.
+pub fn passes_go_on()
+    ensures { PassesGoOn }
+{}
+
+/// Ops of one block that are replaced one by one are one edit of it: so a load is made far with all of its uses.
+pub fn replaces_in_a_row()
+    ensures { ReplacesInARow }
 {}
