@@ -28,7 +28,7 @@ use Rattle.om_blocks.proofs.LastWords.{is_last, last_splits, op_stays, next_afte
 some_id : (a b : ℕ) → Some a ≡ Some b → a ≡ b
 some_id a b e = cc
 
-to_block : (o : Option ℕ) (id : ℕ) → exit_at o ≡ exit.Block id → o ≡ Some id
+pub to_block : (o : Option ℕ) (id : ℕ) → exit_at o ≡ exit.Block id → o ≡ Some id
 to_block None id e = cc
 to_block (Some k) id e = let s : k ≡ id = cc in ap Some s
 
@@ -36,7 +36,7 @@ by_none : (o : Option ℕ) → exit_at o ≡ exit.ByRegister → ⊥
 by_none None e = cc
 by_none (Some k) e = cc
 
-falls_true : (l : Last) → FallsOn l → falls_on l ≡ true
+pub falls_true : (l : Last) → FallsOn l → falls_on l ≡ true
 falls_true last.Fall h = refl
 falls_true (last.Cond at i to) h = refl
 falls_true last.Off h = absurd h
@@ -164,7 +164,7 @@ module _ (g : GraphView) (graph : IsGraph g) where
   label_here : (b : Block) → Has g.blocks b → label_of g b.id ≡ Some b.label
   label_here b h = ap (option_map (λ (x : Block). x.label)) (found_here g graph b b.id h refl).0
 
-  next_is : (b n : Block) → Next g.blocks b n → n.label.obj ≡ b.label.obj → in_text g b.id (block_id_after b.id g.blocks) ≡ Some n.id
+  pub next_is : (b n : Block) → Next g.blocks b n → n.label.obj ≡ b.label.obj → in_text g b.id (block_id_after b.id g.blocks) ≡ Some n.id
   next_is b n h o =
       let k = next_has g.blocks b n h in
       let after = next_after g.blocks b n graph.block_ids h in
@@ -187,8 +187,9 @@ module _ (g : GraphView) (graph : IsGraph g) (flow : HasFlow g) where
       by_end (by w s j m) = let k = m g in cc
       by_end (goes w to s j m) = jumps_in w hb hn (ends_here b w s) ((j g n.label).1 (same_block g graph to n hn (to_block (labelled g to) n.id (sym (m g) ∙ e))))
 
-  enters_fall : (b n : Block) → Has g.blocks b → Has g.blocks n → next_fallen g b.id b.last ≡ Some n.id → Enters g b n
-  enters_fall b n hb hn e =
+  -- where control falls
+  pub fallen_next : (b n : Block) → Has g.blocks b → Has g.blocks n → next_fallen g b.id b.last ≡ Some n.id → Next g.blocks b n × (n.label.obj ≡ b.label.obj) × FallsOn b.last
+  fallen_next b n hb hn e =
       let f = fallen_after g b.id b.last n.id e in
       let r = after_next g.blocks b.id n.id f.1 in
       let h = next_has g.blocks r.0 r.1 r.2 in
@@ -197,7 +198,10 @@ module _ (g : GraphView) (graph : IsGraph g) (flow : HasFlow g) where
       let z : same_text (Some b.label) (Some n.label) ≡ true =
       subst (λ (o : Option Place). same_text o (Some n.label) ≡ true) (label_here g graph b hb)
       (subst (λ (o : Option Place). same_text (label_of g b.id) o ≡ true) (label_here g graph n hn) f.2) in
-      falls_in (subst (λ (c : Block). Next g.blocks c n) x (subst (λ (c : Block). Next g.blocks r.0 c) y r.2)) (eqb-true n.label.obj b.label.obj z) (true_falls b.last f.0)
+      (subst (λ (c : Block). Next g.blocks c n) x (subst (λ (c : Block). Next g.blocks r.0 c) y r.2), eqb-true n.label.obj b.label.obj z, true_falls b.last f.0)
+
+  enters_fall : (b n : Block) → Has g.blocks b → Has g.blocks n → next_fallen g b.id b.last ≡ Some n.id → Enters g b n
+  enters_fall b n hb hn e = let r = fallen_next b n hb hn e in falls_in r.0 r.1 r.2
 
   pub enters_led : (b n : Block) → Has g.blocks b → Has g.blocks n → Leads g b n.id → Enters g b n
   enters_led b n hb hn (inl e) = enters_exit b n hb hn e

@@ -86,7 +86,7 @@ kind_stays K ops (op.UseLo i hi) q f j = by_target (target_at ops hi) j
     by_target None j = j
     by_target (Some t) j = j
 
-has_op : (f : Op → Word) (ops : List Op) (w : Word) → Has (map f ops) w → (o : Op) × Has ops o × (f o ≡ w)
+pub has_op : (f : Op → Word) (ops : List Op) (w : Word) → Has (map f ops) w → (o : Op) × Has ops o × (f o ≡ w)
 has_op f [] w h = absurd h
 has_op f (o ∷ ops) w (inl e) = (o, inl refl, e)
 has_op f (o ∷ ops) w (inr h) = let k = has_op f ops w h in (k.0, inr k.1, k.2)
@@ -152,7 +152,7 @@ pub has_right : {A : Type 0} (xs ys : List A) (x : A) → Has ys x → Has (xs +
 has_right [] ys x h = h
 has_right (y ∷ xs) ys x h = inr (has_right xs ys x h)
 
-flat_has : {A B : Type 0} (f : A → List B) (xs : List A) (y : B) → Has (flat_map f xs) y → (x : A) × Has xs x × Has (f x) y
+pub flat_has : {A B : Type 0} (f : A → List B) (xs : List A) (y : B) → Has (flat_map f xs) y → (x : A) × Has xs x × Has (f x) y
 flat_has f [] y h = absurd h
 flat_has f (x ∷ xs) y h = by_case (has_both (f x) (flat_map f xs) y h) (flat_has f xs y)
   where
@@ -176,7 +176,7 @@ is_code (target.Code c) q e = inl e
 is_code (target.Num n) q h = absurd h
 is_code (target.Ptr r x) q h = absurd h
 
-codes_load : (a : Act) (q : Place) → Has (act_codes a) q → loads a q
+pub codes_load : (a : Act) (q : Place) → Has (act_codes a) q → loads a q
 codes_load (act.Lit ra rb t) q h = code_is t q h
 codes_load (act.Plain i) q h = absurd h
 codes_load (act.GpHi ra rb base) q h = absurd h
@@ -188,7 +188,7 @@ codes_load (act.UseLo i hi t) q h = absurd h
 codes_load (act.UseGp i gp t) q h = absurd h
 codes_load act.Wrong q h = absurd h
 
-load_codes : (a : Act) (q : Place) → loads a q → Has (act_codes a) q
+pub load_codes : (a : Act) (q : Place) → loads a q → Has (act_codes a) q
 load_codes (act.Lit ra rb t) q h = is_code t q h
 load_codes (act.Plain i) q h = absurd h
 load_codes (act.GpHi ra rb base) q h = absurd h
@@ -200,10 +200,10 @@ load_codes (act.UseLo i hi t) q h = absurd h
 load_codes (act.UseGp i gp t) q h = absurd h
 load_codes act.Wrong q h = absurd h
 
-abbrev link_list : Bool → Place → List Place
+abbrev pub link_list : Bool → Place → List Place
 link_list t q = cond t (q ∷ []) []
 
-link_has : (t : Bool) (p q : Place) → Has (link_list t p) q → (t ≡ true) × (p ≡ q)
+pub link_has : (t : Bool) (p q : Place) → Has (link_list t p) q → (t ≡ true) × (p ≡ q)
 link_has true p q (inl e) = (refl, e)
 link_has true p q (inr h) = absurd h
 link_has false p q h = absurd h

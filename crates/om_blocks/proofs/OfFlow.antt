@@ -30,7 +30,7 @@ use Rattle.om_blocks.specs.Laws.{FlowsTell, entry_table}
 
 -- ---- lists of blocks
 
-has_id : (bs : List Block) (b : Block) → Has bs b → Has (block_ids bs) b.id
+pub has_id : (bs : List Block) (b : Block) → Has bs b → Has (block_ids bs) b.id
 has_id [] b h = absurd h
 has_id (c ∷ bs) b (inl e) = inl (ap (λ (x : Block). x.id) e)
 has_id (c ∷ bs) b (inr h) = inr (has_id bs b h)

@@ -28,12 +28,12 @@ pub record Done (g : GraphView) (b : Block) (ops : List Op) (e : Effect) : Type 
 pub done_first : (g : GraphView) (b : Block) (e : Effect) → e.writes < 2 ^ 32 → e.reads ≡ 0 → e.writes ≡ 0 → e.transfer ≡ Keep → Done g b [] e
 done_first g b e small r w t = record { small = small; all = does_first (table_of g b.label.obj) e r w t }
 
-left_has : (xs ys : List Word) (w : Word) → Has xs w → Has (xs ++ ys) w
+pub left_has : (xs ys : List Word) (w : Word) → Has xs w → Has (xs ++ ys) w
 left_has [] ys w h = absurd h
 left_has (x ∷ xs) ys w (inl e) = inl e
 left_has (x ∷ xs) ys w (inr h) = inr (left_has xs ys w h)
 
-has_words : (f : Op → Word) (ops : List Op) (o : Op) → Has ops o → Has (map f ops) (f o)
+pub has_words : (f : Op → Word) (ops : List Op) (o : Op) → Has ops o → Has (map f ops) (f o)
 has_words f [] o h = absurd h
 has_words f (x ∷ ops) o (inl e) = inl (ap f e)
 has_words f (x ∷ ops) o (inr h) = inr (has_words f ops o h)

@@ -136,7 +136,7 @@ left_blocks : (done : List Block) (b : Block) (rest : List Block) → Apart (blo
 left_blocks [] b rest a = let e = eqb_self b.id in rw e refl
 left_blocks (c ∷ cs) b rest a = let e = other_block c cs b rest a in rw e (left_blocks cs b rest a.1)
 
-blocks_all : (done left : List Block) → Apart (block_ids (done ++ left)) → length (blocks_from (first_block_id left) (done ++ left)) ≡ length left
+pub blocks_all : (done left : List Block) → Apart (block_ids (done ++ left)) → length (blocks_from (first_block_id left) (done ++ left)) ≡ length left
 blocks_all done [] a = refl
 blocks_all done (b ∷ rest) a = ap (λ l. length l) (left_blocks done b rest a)
 

@@ -150,7 +150,9 @@ fn other(written: u32) -> Transfer
     }
 }
 
-fn transfer_of(kind: &OpKind, table: u32) -> Transfer
+/// What an op leaves in r29, where its object has the table: the table's global pointer, where it is the low half of a pair
+/// that writes r29; where another op writes it, another value.
+pub fn transfer_of(kind: &OpKind, table: u32) -> Transfer
     ensures { result ≡ kind_transfer table kind.now }
 {
     match *kind {

@@ -12,8 +12,8 @@ use om_io::NoMemory;
 use om_value::{Place, Target};
 use std::alloc::Global;
 
-// The place in code of which an op loads the address.
-pub(crate) fn code_of(kind: &OpKind) -> Option<Place>
+/// The place in code of which an op loads the address.
+pub fn code_of(kind: &OpKind) -> Option<Place>
     ensures { result ≡ kind_code kind.now }
 {
     match *kind {
@@ -25,8 +25,8 @@ pub(crate) fn code_of(kind: &OpKind) -> Option<Place>
     }
 }
 
-// The place of the word that ends a block, where that writes a link register.
-pub(crate) fn link_of(last: &Last) -> Option<Place>
+/// The place of the word that ends a block, where that writes a link register.
+pub fn link_of(last: &Last) -> Option<Place>
     ensures { result ≡ link_place last.now }
 {
     match *last {

@@ -11,7 +11,8 @@ mod landing;
 mod laws;
 
 pub use block_tests::{BlockTest, passes_at_landings};
-pub use effects::{Effect, effect_of, last_reads, last_writes, reads_of, writes_of};
+pub use effects::{Effect, effect_of, last_reads, last_writes, reads_of, transfer_of, writes_of};
 pub use exits::{Exit, exit_of, fall_of};
 pub use flows::flow_of;
+pub use landing::{code_of, link_of};
 pub use laws::{flows_tell, graphs_have_flows};

@@ -29,7 +29,7 @@ set_low c w (act.UseLo i hi t) h = absurd h
 set_low c w (act.UseGp i gp t) h = absurd h
 set_low c w act.Wrong h = absurd h
 
-set_not_any : (c : Script) (w : Word) (a : Act) → set_fact c w a ≡ Any → ⊥
+pub set_not_any : (c : Script) (w : Word) (a : Act) → set_fact c w a ≡ Any → ⊥
 set_not_any c w (act.GpLo ra rb hi) e = cc
 set_not_any c w (act.Plain i) e = cc
 set_not_any c w (act.Lit ra rb t) e = cc
@@ -42,7 +42,7 @@ set_not_any c w (act.UseGp i gp t) e = cc
 set_not_any c w act.Wrong e = cc
 
 -- what a word makes of a fact where a walk comes
-changed_is : (c : Script) (w : Word) (x : Fact) → (x ≡ Any → ⊥) → changed c w x ≡ cond (has (act_writes w.act) 29) (set_fact c w w.act) x
+pub changed_is : (c : Script) (w : Word) (x : Fact) → (x ≡ Any → ⊥) → changed c w x ≡ cond (has (act_writes w.act) 29) (set_fact c w w.act) x
 changed_is c w Any n = absurd (n refl)
 changed_is c w (Table t) n = refl
 changed_is c w Unknown n = refl

@@ -2,3 +2,4 @@ pub mod Copying
 pub mod Exactness
 pub mod OnChecks
 mod KnownFacts
+pub mod Inside

@@ -1,5 +1,6 @@
 pub mod ByLabel
 pub mod Exact
+pub mod Inside
 pub mod OneTable
 pub mod Passing
 pub mod Rows

@@ -5,8 +5,10 @@
 mod checks;
 mod facts;
 mod laws;
+mod walks;
 
 pub use checks::check;
 pub use facts::{GpFacts, solve};
 pub use laws::{facts_are_known, facts_by_label_are_exact};
 pub use om_flow::Fact;
+pub use walks::{fact_before_last, fact_behind_op, is_fact};

@@ -1,3 +1,4 @@
+pub mod Outs
 pub mod ByLabel
 pub mod Exact
 pub mod Passing

@@ -35,7 +35,7 @@ both_true false b e = absurd (true≢false (sym e))
 
 -- ---- what words read and write is what their ops do
 
-act_reads_of : (os : List Op) (k : OpKind) → (op_act os k ≡ act.Wrong → ⊥) → act_reads (op_act os k) ≡ kind_reads k
+pub act_reads_of : (os : List Op) (k : OpKind) → (op_act os k ≡ act.Wrong → ⊥) → act_reads (op_act os k) ≡ kind_reads k
 act_reads_of os (op.Plain i) right = refl
 act_reads_of os (op.Lit ra rb t) right = refl
 act_reads_of os (op.AddrLda ra rb t) right = refl
@@ -49,7 +49,7 @@ act_reads_of os (op.UseGp i gp t) right = refl
 act_reads_of os (op.GpHi ra rb base) right = refl
 act_reads_of os (op.GpLo ra rb hi) right = refl
 
-act_writes_of : (os : List Op) (k : OpKind) → (op_act os k ≡ act.Wrong → ⊥) → act_writes (op_act os k) ≡ kind_writes k
+pub act_writes_of : (os : List Op) (k : OpKind) → (op_act os k ≡ act.Wrong → ⊥) → act_writes (op_act os k) ≡ kind_writes k
 act_writes_of os (op.Plain i) right = refl
 act_writes_of os (op.Lit ra rb t) right = refl
 act_writes_of os (op.AddrLda ra rb t) right = refl
@@ -63,7 +63,7 @@ act_writes_of os (op.UseGp i gp t) right = refl
 act_writes_of os (op.GpHi ra rb base) right = refl
 act_writes_of os (op.GpLo ra rb hi) right = refl
 
-abbrev AreRight : List Word → Type 0
+abbrev pub AreRight : List Word → Type 0
 AreRight ws = (w : Word) → Has ws w → w.act ≡ act.Wrong → ⊥
 
 -- a block ends with one word or none
@@ -77,7 +77,7 @@ pub record NoLast (l : Last) : Type 0 where
   pub reads : last_reads l ≡ []
   pub writes : last_writes l ≡ []
 
-last_is : (l : Last) → ((w : Word) → Has (last_words l) w → w.act ≡ act.Wrong → ⊥) → NoLast l ⊎ ((w : Word) × OneLast l w)
+pub last_is : (l : Last) → ((w : Word) → Has (last_words l) w → w.act ≡ act.Wrong → ⊥) → NoLast l ⊎ ((w : Word) × OneLast l w)
 last_is last.Fall right = inl (record { word = refl; reads = refl; writes = refl })
 last_is last.Off right = inl (record { word = refl; reads = refl; writes = refl })
 last_is (last.Br at o ra to) right = inr (record { at = at; act = act.To o ra to }, record { word = refl; reads = refl; writes = refl })
@@ -118,7 +118,7 @@ id_in (y ∷ ns) n (inl k) = inl (ap (λ (z : Node). z.id) k)
 id_in (y ∷ ns) n (inr k) = inr (id_in ns n k)
 
 -- nodes of one id are one node
-same_node : (ns : List Node) (m n : Node) → Apart (node_ids ns) → Has ns m → Has ns n → m.id ≡ n.id → m ≡ n
+pub same_node : (ns : List Node) (m n : Node) → Apart (node_ids ns) → Has ns m → Has ns n → m.id ≡ n.id → m ≡ n
 same_node [] m n a h k e = absurd h
 same_node (x ∷ ns) m n a (inl h) (inl k) e = sym h ∙ k
 same_node (x ∷ ns) m n a (inl h) (inr k) e =
@@ -160,7 +160,7 @@ splits r a (n ∷ ns) h = by_reads (reads r n) (writes r n) refl refl h (splits 
     by_reads false true e f k again = absurd k
     by_reads false false e f k again = later f (again k)
 
-is_reader : (r : ℕ) (mid : List Node) (n : Node) (rest : List Node) → reads r n ≡ true → is_kept r mid ≡ true → Has (readers r (mid ++ n ∷ rest)) n.id
+pub is_reader : (r : ℕ) (mid : List Node) (n : Node) (rest : List Node) → reads r n ≡ true → is_kept r mid ≡ true → Has (readers r (mid ++ n ∷ rest)) n.id
 is_reader r [] n rest e k = rw e (inl refl)
 is_reader r (m ∷ mid) n rest e k = by_writes (reads r m) (writes r m) k (is_reader r mid n rest e)
   where
@@ -172,16 +172,16 @@ is_reader r (m ∷ mid) n rest e k = by_writes (reads r m) (writes r m) k (is_re
 -- ---- in a block
 
 module _ (b : Block) (r : ℕ) where
-  word_in : (ns : List Node) (n : Node) → Has ns n → Has (words_of b ns) (word_of b n)
+  pub word_in : (ns : List Node) (n : Node) → Has ns n → Has (words_of b ns) (word_of b n)
   word_in [] n h = absurd h
   word_in (m ∷ ns) n (inl e) = inl (ap (word_of b) e)
   word_in (m ∷ ns) n (inr h) = inr (word_in ns n h)
 
-  words_append : (xs ys : List Node) → words_of b (xs ++ ys) ≡ words_of b xs ++ words_of b ys
+  pub words_append : (xs ys : List Node) → words_of b (xs ++ ys) ≡ words_of b xs ++ words_of b ys
   words_append [] ys = refl
   words_append (x ∷ xs) ys = ap (λ (l : List Word). word_of b x ∷ l) (words_append xs ys)
 
-  kept_none : (ns : List Node) → AreRight (words_of b ns) → is_kept r ns ≡ true → NoneWrites r (words_of b ns)
+  pub kept_none : (ns : List Node) → AreRight (words_of b ns) → is_kept r ns ≡ true → NoneWrites r (words_of b ns)
   kept_none [] right k = λ w h a. h
   kept_none (n ∷ ns) right k = by_writes (writes r n) refl k (kept_none ns (λ w h. right w (inr h)))
     where
@@ -196,7 +196,7 @@ module _ (b : Block) (r : ℕ) where
               true≢false (sym (among_true (kind_writes n.op.kind) r (subst (λ (rs : List ℕ). Among rs r) l m)) ∙ e)
           by_word e none w (inr h) a = none w h a
 
-  none_kept : (ns : List Node) → AreRight (words_of b ns) → NoneWrites r (words_of b ns) → is_kept r ns ≡ true
+  pub none_kept : (ns : List Node) → AreRight (words_of b ns) → NoneWrites r (words_of b ns) → is_kept r ns ≡ true
   none_kept [] right none = refl
   none_kept (n ∷ ns) right none = by_writes (writes r n) refl (none_kept ns (λ w h. right w (inr h)) (λ w h. none w (inr h)))
     where
@@ -220,7 +220,7 @@ module _ (b : Block) (r : ℕ) where
     pub mid_is : mid ≡ words_of b ns ++ extra
     pub among : Has others x
 
-  where_is :
+  pub where_is :
       (ns : List Node) (others mid : List Word) (x : Word) (after : List Word) → words_of b ns ++ others ≡ mid ++ x ∷ after →
       AmongNodes ns mid x ⊎ BehindNodes ns mid x others
   where_is [] others mid x after e = inr (record { extra = mid; mid_is = refl; among = subst (λ (l : List Word). Has l x) (sym e) (has_mid mid x after) })
@@ -273,11 +273,11 @@ module _ (g : GraphView) (id r : ℕ) (b : Block) (behind : List Node) (graph : 
   in_behind : (n : Node) → Has behind n → Has b.ops n
   in_behind n k = subst (λ (l : List Node). Has l n) (sym h.stands) (has_right h.before (h.node ∷ behind) n (inr k))
 
-  right_behind : (w : Word) → Has (words_behind b behind) w → w.act ≡ act.Wrong → ⊥
+  pub right_behind : (w : Word) → Has (words_behind b behind) w → w.act ≡ act.Wrong → ⊥
   right_behind w k =
       right w (subst (λ (l : List Word). Has l w) (sym words_are) (has_right (words_of b h.before) (word_of b h.node ∷ words_behind b behind) w (inr k)))
 
-  right_nodes : (w : Word) → Has (words_of b behind) w → w.act ≡ act.Wrong → ⊥
+  pub right_nodes : (w : Word) → Has (words_of b behind) w → w.act ≡ act.Wrong → ⊥
   right_nodes w k = right_behind w (has_left (words_of b behind) (last_words b.last) w k)
 
   right_last : (w : Word) → Has (last_words b.last) w → w.act ≡ act.Wrong → ⊥
@@ -295,13 +295,13 @@ module _ (g : GraphView) (id r : ℕ) (b : Block) (behind : List Node) (graph : 
       subst (λ (rs : List ℕ). Among rs r) (sym (act_writes_of (ops_of b) h.node.op.kind (right_node h.node m) ∙ h.writes)) (inl refl)
 
   -- what stands behind the result's word, by a local use of it
-  behind_is : (w : Word) (u : IsLocalUse (block_words b) (word_of b h.node) w r) → words_behind b behind ≡ u.mid ++ w ∷ u.stands.1
+  pub behind_is : (w : Word) (u : IsLocalUse (block_words b) (word_of b h.node) w r) → words_behind b behind ≡ u.mid ++ w ∷ u.stands.1
   behind_is w u =
       same_behind (words_of b h.before) (words_behind b behind) u.stands.0 (u.mid ++ w ∷ u.stands.1) (word_of b h.node)
       (sym words_are ∙ u.stands.2 ∙ assoc u.stands.0 (word_of b h.node ∷ u.mid) (w ∷ u.stands.1)) (subst (λ (l : List Word). Ordered l) words_are order)
 
   -- an op's word is no end
-  not_last : (n : Node) → Has b.ops n → Has (last_words b.last) (word_of b n) → ⊥
+  pub not_last : (n : Node) → Has b.ops n → Has (last_words b.last) (word_of b n) → ⊥
   not_last n k e = words_apart (words_of b b.ops) (last_words b.last) (word_of b n) (word_of b n) order (word_in b r b.ops n k) e refl
 
   pub reader_is_use : (n : Node) → Has b.ops n → Has (readers r behind) n.id → IsLocalUse (block_words b) (word_of b h.node) (word_of b n) r
