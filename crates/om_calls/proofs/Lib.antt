@@ -1,0 +1,13 @@
+mod Nodes
+mod CallEnds
+mod Known
+mod Blocks
+mod OpeningPairs
+mod Entries
+mod WalkedOps
+mod NodesAt
+mod PairGone
+mod WalkGoesOn
+mod NothingLeft
+mod OverBlocks
+mod InBlock
