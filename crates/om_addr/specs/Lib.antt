@@ -1,3 +1,12 @@
 pub mod Reduces
 pub mod Laws
 pub mod Halves
+pub mod Passing
+pub mod Loads
+pub mod Near
+pub mod NearLoads
+pub mod Done
+pub mod FarRow
+pub mod FarTest
+pub mod FarEdit
+pub mod NearDone
