@@ -37,19 +37,19 @@ use Rattle.om_addr.proofs.Walking.{At, op_is}
 use Rattle.om_addr.proofs.Bytes.{differ}
 use Rattle.om_addr.proofs.HalfWords.{has_behind}
 
-node_split : (ns : List Node) (n : Node) → Has ns n → (xs : List Node) × (ys : List Node) × (ns ≡ xs ++ n ∷ ys)
+pub node_split : (ns : List Node) (n : Node) → Has ns n → (xs : List Node) × (ys : List Node) × (ns ≡ xs ++ n ∷ ys)
 node_split [] n h = absurd h
 node_split (y ∷ ns) n (inl e) = ([], ns, ap (λ (z : Node). z ∷ ns) e)
 node_split (y ∷ ns) n (inr h) = let r = node_split ns n h in (y ∷ r.0, r.1, ap (λ (l : List Node). y ∷ l) r.2)
 
 -- the node of a word among those of ops
-node_of_word : (os : List Op) (ns : List Node) (w : Word) → Has (map (op_word os) (map (λ (n : Node). n.op) ns)) w → (n : Node) × Has ns n × (op_word os n.op ≡ w)
+pub node_of_word : (os : List Op) (ns : List Node) (w : Word) → Has (map (op_word os) (map (λ (n : Node). n.op) ns)) w → (n : Node) × Has ns n × (op_word os n.op ≡ w)
 node_of_word os [] w h = absurd h
 node_of_word os (n ∷ ns) w (inl e) = (n, inl refl, e)
 node_of_word os (n ∷ ns) w (inr h) = let r = node_of_word os ns w h in (r.0, inr r.1, r.2)
 
 -- a word that loads an address, from its slot or as a sum
-abbrev word_act : Bool → ℕ → ℕ → Target → Act
+abbrev pub word_act : Bool → ℕ → ℕ → Target → Act
 word_act true ra rb t = act.Lit ra rb t
 word_act false ra rb t = act.AddrLda ra rb t
 
@@ -81,7 +81,7 @@ no_plain : (i : Instr) (s : Bool) (ra rb : ℕ) (t : Target) → act.Plain i ≡
 no_plain i true ra rb t e = cc
 no_plain i false ra rb t e = cc
 
-no_last : (l : Last) (w : Word) (s : Bool) (ra rb : ℕ) (t : Target) → Has (last_words l) w → w.act ≡ word_act s ra rb t → ⊥
+pub no_last : (l : Last) (w : Word) (s : Bool) (ra rb : ℕ) (t : Target) → Has (last_words l) w → w.act ≡ word_act s ra rb t → ⊥
 no_last last.Fall w s ra rb t h e = h
 no_last last.Off w s ra rb t h e = h
 no_last (last.Br at o r q) w s ra rb t (inl k) e = no_to o r q s ra rb t (ap (λ (x : Word). x.act) k ∙ e)
@@ -95,10 +95,10 @@ no_last (last.CallBy at i) w s ra rb t (inr k) e = k
 no_last (last.JumpBy at i) w s ra rb t (inl k) e = no_plain i s ra rb t (ap (λ (x : Word). x.act) k ∙ e)
 no_last (last.JumpBy at i) w s ra rb t (inr k) e = k
 
-abbrev load_of : ℕ → ℕ → Bool → ℕ → ℕ → Target → Load
+abbrev pub load_of : ℕ → ℕ → Bool → ℕ → ℕ → Target → Load
 load_of id obj s ra rb t = record { id = id; obj = obj; ra = ra; rb = rb; target = t; from_slot = s }
 
-load_in_is : (os : List Op) (k : OpKind) (id obj : ℕ) (s : Bool) (ra rb : ℕ) (t : Target) → op_act os k ≡ word_act s ra rb t → load_in id obj k ≡ Some (load_of id obj s ra rb t)
+pub load_in_is : (os : List Op) (k : OpKind) (id obj : ℕ) (s : Bool) (ra rb : ℕ) (t : Target) → op_act os k ≡ word_act s ra rb t → load_in id obj k ≡ Some (load_of id obj s ra rb t)
 load_in_is os (op.Lit rc rd u) id obj true ra rb t e = cc
 load_in_is os (op.Lit rc rd u) id obj false ra rb t e = cc
 load_in_is os (op.AddrLda rc rd u) id obj true ra rb t e = cc

@@ -13,7 +13,7 @@ use Rattle.om_addr.proofs.InARow as row
 use Rattle.om_addr.proofs.Walking.{At, next_is, fewer_left, ops_left, ids_from, from_here, from_next}
 use Rattle.om_addr.proofs.Loaded.{none_of_both, in_a_row}
 
-none_left_blocks : (bs : List Block) → None ≡ first_block_id bs → bs ≡ []
+pub none_left_blocks : (bs : List Block) → None ≡ first_block_id bs → bs ≡ []
 none_left_blocks [] e = refl
 none_left_blocks (b ∷ bs) e = cc
 

@@ -18,13 +18,13 @@ use Rattle.om_addr.specs.Passing.{IsReduced, KeepsIds, Reducing, ReducingOnce, s
 pub going : {p : ProgramView} {a b : GraphView} → GoesOn p a b → MayGoOn p b
 going x = record { graph = x.graph; kept = x.kept; reach = x.reach }
 
-by_false : {A : Type 0} → false ≡ true → A
+pub by_false : {A : Type 0} → false ≡ true → A
 by_false e = cc
 
-by_true : {A : Type 0} → true ≡ false → A
+pub by_true : {A : Type 0} → true ≡ false → A
 by_true e = cc
 
-ids_both : {a b c : GraphView} → KeepsIds a b → KeepsIds b c → KeepsIds a c
+pub ids_both : {a b c : GraphView} → KeepsIds a b → KeepsIds b c → KeepsIds a c
 ids_both x y = record { blocks = y.blocks ∙ x.blocks; ops = y.ops ∙ x.ops; near = λ k h. y.near k (x.near k h) }
 
 module _ (l : LayoutView) (masks : List ℕ) where

@@ -33,3 +33,7 @@ pub mod FarServes
 pub mod FarSplit
 pub mod FarLeft
 pub mod AllDone
+pub mod IdleLoads
+pub mod IdleLoops
+pub mod IdleDone
+pub mod OutsStay

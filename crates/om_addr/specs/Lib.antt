@@ -10,3 +10,4 @@ pub mod FarRow
 pub mod FarTest
 pub mod FarEdit
 pub mod NearDone
+pub mod Idle
