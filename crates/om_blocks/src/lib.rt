@@ -9,6 +9,7 @@ mod filling;
 mod flows;
 mod landing;
 mod laws;
+mod unions;
 
 pub use block_tests::{BlockTest, passes_at_landings};
 pub use effects::{Effect, effect_of, last_reads, last_writes, reads_of, transfer_of, writes_of};
@@ -16,3 +17,4 @@ pub use exits::{Exit, exit_of, fall_of};
 pub use flows::flow_of;
 pub use landing::{code_of, link_of};
 pub use laws::{flows_tell, graphs_have_flows};
+pub use unions::{BlockMask, union_at_landings};

@@ -24,6 +24,7 @@ use Rattle.om_blocks.proofs.OfFlow.{known_mask}
 use Rattle.om_blocks.proofs.Entering.{exit_block, fallen_block, enters_led, enters_named, Entered, led, by_jump, entered, entering}
 use Rattle.om_blocks.proofs.OnFilling.{found_id}
 use Rattle.om_live.specs.Passing.{Covers, with_exit, Passes, PassesMore}
+use Rattle.om_live.specs.Outs.{AreLanded}
 
 -- ---- bits
 
@@ -252,3 +253,25 @@ module _ (g : GraphView) (graph : IsGraph g) (flow : HasFlow g) (masks : List �
       by_case b n r e l m q (by_jump j k) =
           let h = entering g b n e in
           passes.jumped b r h.0 j l (lands n h.1 k r l (bit_of n r h.1 m) (bit_at-zero r)) q
+
+  -- a mask has those of each block at a landing place where it has those of their union
+  module _ (out landed : ℕ) (are : AreLanded g masks landed) where
+    pub landed_covered : Covers out landed 0 → (n : Block) → Has g.blocks n → Named g n.label → Covers out (Mask n) 0
+    landed_covered covers n hn named r l a b = covers r l (is_one (same_or_not (bit_at landed r) 0)) b
+      where
+        is_one : (bit_at landed r ≡ 0) ⊎ (bit_at landed r ≢ 0) → bit_at landed r ≡ 1
+        is_one (inl z) = let none = (are.lacks r l).0 z n hn named in absurd (omega (arith, none, a))
+        is_one (inr k) = omega (arith, k, bit_at-lt landed r)
+
+    pub covers_landed : ((n : Block) → Has g.blocks n → Named g n.label → Covers out (Mask n) 0) → Covers out landed 0
+    covers_landed each r l a b = by_case (same_or_not (bit_at out r) 1)
+      where
+        by_case : (bit_at out r ≡ 1) ⊎ (bit_at out r ≢ 1) → bit_at out r ≡ 1
+        by_case (inl e) = e
+        by_case (inr k) =
+            let none = (are.lacks r l).1 (λ n hn named. lacks n hn named (same_or_not (bit_at (Mask n) r) 0)) in
+            absurd (omega (arith, none, a))
+          where
+            lacks : (n : Block) → Has g.blocks n → Named g n.label → (bit_at (Mask n) r ≡ 0) ⊎ (bit_at (Mask n) r ≢ 0) → bit_at (Mask n) r ≡ 0
+            lacks n hn named (inl z) = z
+            lacks n hn named (inr m) = absurd (k (each n hn named r l (omega (arith, m, bit_at-lt (Mask n) r)) (bit_at-zero r)))

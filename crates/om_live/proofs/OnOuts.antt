@@ -1,101 +1,30 @@
 -- The registers that may be read from the ends of blocks on, put together.
-use Rattle.std.proofs.Common.{◌≡◌, ◌≢◌, ◌⊎◌, inl, inr, ◌<◌, ◌≤◌, ◌*◌, ◌+◌, ◌^◌, ℕ, zero, suc, Bool, true, false, List, [], ◌∷◌, ◌++◌, Option, Some, None, replicate, length, get_or, get_or-set_same, get_or-set_other, refl, sym, ap, ◌∙◌, subst, arith}
-use Rattle.std.specs.Prelude.{◌↔◌, option_map}
+use Rattle.std.proofs.Common.{◌≡◌, ◌≢◌, ◌⊎◌, inl, inr, ◌<◌, ℕ, Bool, true, false, List, [], ◌∷◌, ◌++◌, Option, Some, None, replicate, length, get_or, get_or-set_same, get_or-set_other, refl, sym, ap, ◌∙◌, subst, arith}
+use Rattle.std.specs.Prelude.{option_map}
 use Rattle.std.specs.Int.{bit_at}
-use Rattle.std.specs.Int.Bits.{bit_and, bit_or}
+use Rattle.std.specs.Int.Bits.{bit_or}
 use Rattle.std.proofs.Math.ListN.{set}
 use Rattle.std.proofs.lemmas.List.{length-set, length-replicate}
 use Rattle.std.proofs.lemmas.Bool.{true≢false, eqb-true, eq-eqb}
-use Rattle.std.proofs.lemmas.Nat.Bits.{and_pow, bit_at-zero, bit_at-lt, bit_at-pow_same, bit_at-pow_other, bit_at_or}
+use Rattle.std.proofs.lemmas.Nat.Bits.{bit_at-zero, bit_at-lt, bit_at_or}
 use Rattle.om_flow.proofs.Spreading.{same_or_not}
 use Rattle.om_value.specs.declared.value.Place.{Place}
 use Rattle.om_graph.specs.declared.op.Last.{Last}
 use Rattle.om_graph.specs.View.{Block, GraphView, Has, is_live_block, last_of}
 use Rattle.om_graph.specs.Held.{IsGraph}
-use Rattle.om_graph.specs.Kept.{Named}
 use Rattle.om_graph.specs.Checks.{Enters}
 use Rattle.om_graph.specs.Outs.{outs_of}
 use Rattle.om_graph.proofs.Outs.{are_outs}
 use Rattle.om_blocks.specs.declared.exits.Exit.{Exit}
 use Rattle.om_blocks.specs.declared.exits.Exit.TheVariants as exit
-use Rattle.om_blocks.specs.Exits.{last_exit, next_fallen, Leads, JumpsBy}
+use Rattle.om_blocks.specs.Exits.{last_exit, next_fallen}
 use Rattle.om_blocks.specs.IsFlow.{HasFlow}
 use Rattle.om_blocks.specs.Found.{masks_in, all_registers}
 use Rattle.om_blocks.proofs.OfFlow.{known_mask}
 use Rattle.om_blocks.proofs.Entering.{exit_block, fallen_block, enters_led, enters_named, Entered, led, by_jump, entered, entering}
 use Rattle.om_blocks.proofs.LastWords.{has_both}
 use Rattle.om_blocks.proofs.Walking.{found_here}
-use Rattle.om_live.specs.Outs.{HasBits, IsOut, LandedTo, AreLanded, exit_mask, fall_mask, AreOuts}
-
--- ---- landing places, register by register
-
-abbrev pub AllLack : GraphView → List ℕ → ℕ → Type 0
-AllLack g masks r = (n : Block) → Has g.blocks n → Named g n.label → bit_at (get_or masks n.id all_registers) r ≡ 0
-
--- the same as one test asks it
-abbrev pub AllPass : GraphView → List ℕ → ℕ → Type 0
-AllPass g masks bits = (n : Block) → Has g.blocks n → Named g n.label → bit_and (get_or masks n.id all_registers) bits ≡ 0
-
-times_pow : (b k : ℕ) → b < 2 → b * 2 ^ k ≡ 0 → b ≡ 0
-times_pow zero k l e = refl
-times_pow (suc b) k l e = absurd (positive k (omega (arith, e)))
-  where
-    positive : (k : ℕ) → 2 ^ k ≡ 0 → ⊥
-    positive zero e = omega (arith, e)
-    positive (suc k) e = positive k (omega (arith, e))
-
-pass_lack : (g : GraphView) (masks : List ℕ) (r : ℕ) → AllPass g masks (2 ^ r) → AllLack g masks r
-pass_lack g masks r f n h k =
-    let m = get_or masks n.id all_registers in
-    times_pow (bit_at m r) r (bit_at-lt m r) (sym (and_pow m r) ∙ f n h k)
-
-lack_pass : (g : GraphView) (masks : List ℕ) (r : ℕ) → AllLack g masks r → AllPass g masks (2 ^ r)
-lack_pass g masks r f n h k =
-    let m = get_or masks n.id all_registers in
-    and_pow m r ∙ ap (λ (b : ℕ). b * 2 ^ r) (f n h k) ∙ no_times (2 ^ r)
-  where
-    no_times : (n : ℕ) → 0 * n ≡ 0
-    no_times n = omega arith
-
-pub landed_first : (g : GraphView) (masks : List ℕ) → LandedTo g masks 0 0
-landed_first g masks = record { before = λ r l. absurd (omega (arith, l)); behind = λ r l. bit_at-zero r }
-
-module _ (g : GraphView) (masks : List ℕ) (k out bits : ℕ) (is : bits ≡ 2 ^ k) (old : LandedTo g masks k out) where
-  pub landed_none : AllPass g masks bits → LandedTo g masks (k + 1) out
-  landed_none f = record { before = λ r l. by_case r l (same_or_not r k); behind = λ r l. old.behind r (omega (arith, l)) }
-    where
-      lack : AllLack g masks k
-      lack = pass_lack g masks k (subst (λ (x : ℕ). AllPass g masks x) is f)
-
-      by_case : (r : ℕ) → r < k + 1 → (r ≡ k) ⊎ (r ≢ k) → (bit_at out r ≡ 0) ↔ AllLack g masks r
-      by_case r l (inl e) = (λ q. subst (λ (x : ℕ). AllLack g masks x) (sym e) lack, λ q. old.behind r (omega (arith, e)))
-      by_case r l (inr n) = old.before r (omega (arith, l, n))
-
-  pub landed_some : (AllPass g masks bits → ⊥) → LandedTo g masks (k + 1) (bit_or out bits)
-  landed_some f = record { before = λ r l. by_case r l (same_or_not r k); behind = λ r l. other r (λ e. omega (arith, e, l)) (old.behind r (omega (arith, l))) }
-    where
-      apart : (r : ℕ) → r ≢ k → bit_at (bit_or out bits) r ≡ bit_at out r
-      apart r n =
-          let z : bit_at bits r ≡ 0 = ap (λ (x : ℕ). bit_at x r) is ∙ bit_at-pow_other k r n in
-          omega (arith, z, bit_at_or out bits r)
-
-      other : (r : ℕ) → r ≢ k → bit_at out r ≡ 0 → bit_at (bit_or out bits) r ≡ 0
-      other r n e = apart r n ∙ e
-
-      set_here : bit_at (bit_or out bits) k ≡ 1
-      set_here =
-          let z : bit_at bits k ≡ 1 = ap (λ (x : ℕ). bit_at x k) is ∙ bit_at-pow_same k in
-          omega (arith, z, bit_at_or out bits k, bit_at-lt out k)
-
-      by_case : (r : ℕ) → r < k + 1 → (r ≡ k) ⊎ (r ≢ k) → (bit_at (bit_or out bits) r ≡ 0) ↔ AllLack g masks r
-      by_case r l (inl e) = (
-        λ q. let z : bit_at (bit_or out bits) k ≡ 0 = ap (λ (x : ℕ). bit_at (bit_or out bits) x) (sym e) ∙ q in let s = set_here in absurd (omega (arith, z, s)),
-        λ q. absurd (f (subst (λ (x : ℕ). AllPass g masks x) (sym is) (lack_pass g masks k (subst (λ (x : ℕ). AllLack g masks x) e q)))),
-      )
-      by_case r l (inr n) = let o = old.before r (omega (arith, l, n)) in (λ q. o.0 (sym (apart r n) ∙ q), λ q. apart r n ∙ o.1 q)
-
-pub all_landed : (g : GraphView) (masks : List ℕ) (out : ℕ) → LandedTo g masks 31 out → AreLanded g masks out
-all_landed g masks out to = record { lacks = to.before }
+use Rattle.om_live.specs.Outs.{IsOut, AreLanded, exit_mask, fall_mask, AreOuts}
 
 -- ---- one block
 

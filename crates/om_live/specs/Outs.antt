@@ -1,5 +1,5 @@
 -- The registers that may be read from the ends of blocks on, as bits of numbers.
-use Rattle.std.specs.Prelude.{◌≡◌, ◌↔◌, ◌<◌, ◌≤◌, ℕ, Bool, true, List, length, get_or, Option, Some, None}
+use Rattle.std.specs.Prelude.{◌≡◌, ◌↔◌, ◌<◌, ℕ, Bool, true, List, length, get_or, Option, Some, None}
 use Rattle.std.specs.Int.{bit_at}
 use Rattle.om_value.specs.declared.value.Place.{Place}
 use Rattle.om_graph.specs.View.{Block, GraphView, Has, is_live_block}
@@ -22,13 +22,6 @@ pub record AreLanded (g : GraphView) (masks : List ℕ) (out : ℕ) : Type 0 whe
   pub lacks :
       (r : ℕ) → r < 31 →
       (bit_at out r ≡ 0) ↔ ((n : Block) → Has g.blocks n → Named g n.label → bit_at (get_or masks n.id all_registers) r ≡ 0)
-
--- those below a register
-pub record LandedTo (g : GraphView) (masks : List ℕ) (k out : ℕ) : Type 0 where
-  pub before :
-      (r : ℕ) → r < k →
-      (bit_at out r ≡ 0) ↔ ((n : Block) → Has g.blocks n → Named g n.label → bit_at (get_or masks n.id all_registers) r ≡ 0)
-  pub behind : (r : ℕ) → k ≤ r → bit_at out r ≡ 0
 
 abbrev pub exit_mask : List ℕ → ℕ → Exit → ℕ
 exit_mask masks landed exit.Nowhere = 0

@@ -9,7 +9,8 @@ ghost use Rattle.om_blocks.specs.Found.{masks_in, all_registers};
 ghost use Rattle.om_live.specs.Passing.{Covers, with_exit as mask_with_exit, Passes, PassesMore};
 
 use crate::masks::Live;
-use om_blocks::{BlockTest, Exit, effect_of, exit_of, fall_of, passes_at_landings};
+use crate::outs::landed;
+use om_blocks::{Exit, effect_of, exit_of, fall_of};
 use om_graph::{BlockId, Graph};
 
 // Whether a mask has each register that is live and not written. r31 does not count.
@@ -97,25 +98,6 @@ fn passed(g: &Graph, l: &Live) -> Option<u32>
     Some(out)
 }
 
-// Whether a mask has those of blocks.
-#[derive(Drop)]
-struct CoveredBy<'a> {
-    live: &'a Live,
-    out: u32,
-}
-
-impl BlockTest for CoveredBy<'_> {
-    ghost use Rattle.std.specs.Prelude.{get_or};
-    ghost use Rattle.om_blocks.specs.Found.{all_registers};
-    ghost use Rattle.om_live.specs.Passing.{Covers};
-
-    ghost holds = { λ t b. Covers t.out (get_or t.live.now b all_registers) 0 };
-
-    fn passes(&self, b: BlockId) -> bool {
-        covers(self.out, self.live.mask(b), 0)
-    }
-}
-
 /// Whether each mask has the registers that may be read from its block's start on, whoever made them: those that the block
 /// reads before it writes them, and those that it does not write in the mask of each block that a walk enters from its end.
 /// r31 does not count. The graph is of a program. It takes no memory.
@@ -125,7 +107,7 @@ pub fn check(g: &Graph, l: &Live) -> bool
 {
     g.is_graph();
     match passed(g, l) {
-        Some(out) => passes_at_landings(g, &CoveredBy { live: l, out }),
+        Some(out) => covers(out, landed(g, l), 0),
         None => false,
     }
 }

@@ -1,66 +1,41 @@
 //! The registers that may be read from the end of each block on.
-ghost use Rattle.std.specs.Prelude.{◌≡◌, ◌<◌, ◌^◌, ◌+◌, ℕ, IsTrue, IfOk};
+ghost use Rattle.std.specs.Prelude.{◌≡◌, IsTrue, IfOk};
 ghost use Rattle.om_graph.specs.Held.{IsGraph};
 ghost use Rattle.om_graph.specs.View.{Block as AnyBlock, is_live_block, Has};
 ghost use Rattle.om_blocks.specs.IsFlow.{HasFlow};
 ghost use Rattle.om_blocks.specs.Found.{masks_in};
-ghost use Rattle.om_live.specs.Outs.{LandedTo, AreLanded, AreOuts, IsOut, exit_mask, fall_mask};
+ghost use Rattle.om_live.specs.Outs.{AreLanded, AreOuts, IsOut, exit_mask, fall_mask};
 
 use crate::masks::Live;
-use om_blocks::{BlockTest, Exit, exit_of, fall_of, passes_at_landings};
+use om_blocks::{BlockMask, Exit, exit_of, fall_of, union_at_landings};
 use om_graph::{BlockId, Graph};
 use om_io::NoMemory;
 use std::alloc::Global;
 
-// Whether a block's mask has none of some registers.
+// The masks, for the walk over landing places.
 #[derive(Drop)]
-struct Lacks<'a> {
+struct Masks<'a> {
     live: &'a Live,
-    registers: u32,
 }
 
-impl BlockTest for Lacks<'_> {
+impl BlockMask for Masks<'_> {
     ghost use Rattle.std.specs.Prelude.{◌≡◌, get_or};
-    ghost use Rattle.std.specs.Int.Bits.{bit_and};
+    ghost use Rattle.std.specs.Int.{bit_at};
     ghost use Rattle.om_blocks.specs.Found.{all_registers};
 
-    ghost holds = { λ t b. bit_and (get_or t.live.now b all_registers) t.registers ≡ 0 };
+    ghost lacks = { λ t b r. bit_at (get_or t.live.now b all_registers) r ≡ 0 };
 
-    fn passes(&self, b: BlockId) -> bool {
-        self.live.mask(b) & self.registers == 0
+    fn mask(&self, b: BlockId) -> u32 {
+        self.live.mask(b)
     }
-}
-
-fn bit(r: u32) -> u32
-    requires { r < 32 }
-    ensures { result ≡ 2 ^ r }
-{
-    1 << r
-}
-
-// Adds a register where it is in the mask of a block at which a jump by a register may land.
-fn add_landed(g: &Graph, l: &Live, out: u32, r: u32) -> u32
-    requires flow { HasFlow g.now }
-    requires register { r < 32 }
-    ensures { LandedTo g.now l.now r out → LandedTo g.now l.now (r + 1) result }
-{
-    let registers = bit(r);
-    if passes_at_landings(g, &Lacks { live: l, registers }) {
-        return out;
-    }
-    out | registers
 }
 
 // The registers that are in the mask of a block at which a jump by a register may land.
-fn landed(g: &Graph, l: &Live) -> u32
+pub(crate) fn landed(g: &Graph, l: &Live) -> u32
     requires { HasFlow g.now }
     ensures { AreLanded g.now l.now result }
 {
-    let mut out = 0;
-    for r in 0..31 {
-        out = add_landed(g, l, out, r);
-    }
-    out
+    union_at_landings(g, &Masks { live: l })
 }
 
 // Those in the mask of the block where the word that ends a block goes.
