@@ -10,5 +10,8 @@ mod Listing
 mod Shapes
 mod OnSweeps
 mod OnGraphs
+mod OnLowering
+mod OnFollowing
+mod OnRegions
 mod Unmarked
 mod Prunes

@@ -1,8 +1,7 @@
 -- The blocks of a graph one after the other, and sweeps until nothing is dead.
-use Rattle.std.proofs.Common.{◌≡◌, ◌⊎◌, inl, inr, ◌<◌, ◌≤◌, ℕ, Bool, true, false, ◌||◌, List, [], ◌∷◌, ◌++◌, Option, Some, None, Result, Ok, Err, get_or, refl, sym, ap, ◌∙◌, subst, arith}
+use Rattle.std.proofs.Common.{◌≡◌, ◌⊎◌, inl, inr, ◌<◌, ◌≤◌, ℕ, Bool, true, false, ◌||◌, List, [], ◌∷◌, ◌++◌, Option, Some, None, Result, Ok, Err, length, get_or, refl, sym, ap, ◌∙◌, subst, arith}
 use Rattle.std.specs.Prelude.{map, is_some, IfSome, IsTrue, OnErr}
 use Rattle.std.proofs.lemmas.Bool.{true≢false}
-use Rattle.std.proofs.lemmas.List.{get_or_default}
 use Rattle.om_value.specs.declared.value.Place.{Place}
 use Rattle.om_prog.specs.Act as act
 use Rattle.om_prog.specs.Act.{Word}
@@ -47,14 +46,14 @@ pub clean_first : (old : GraphView) (masks : Place → ℕ → Bool) → Clean o
 clean_first old masks = record { stays = λ e b h. absurd h }
 
 pub record SweptTo (old : GraphView) (masks : Place → ℕ → Bool) (next : Option ℕ) (now : GraphView) (changed : Bool) (ids : List ℕ) : Type 0 where
-  pub swept : IsSwept masks old now changed
+  pub swept : IsSwept masks (outs_of old masks) old now changed
   pub empty : ids ≡ []
   pub on : OnBlocks Bool (Clean old masks) old next changed
 
 -- what may be read from the end of a block on, that was found before
 pub out_here :
-    (old now : GraphView) (masks : Place → ℕ → Bool) (outs : List ℕ) (changed : Bool) (b : ℕ) → IsGraph old → AreOuts old masks old.blocks outs → IsSwept masks old now changed →
-    IsOutOf old masks now b (get_or outs b 0)
+    (old now : GraphView) (masks : Place → ℕ → Bool) (outs : List ℕ) (changed : Bool) (b : ℕ) → IsGraph old → AreOuts old masks old.blocks outs → IsSwept masks (outs_of old masks) old now changed →
+    IsOutOf (outs_of old masks) now b (get_or outs b 0)
 out_here old now masks outs changed b graph are s x e =
     let live : is_live_block old b ≡ true = sym (live_same old now s.blocks b) ∙ some_live (block_of now b) x e in
     let y = a_some (block_of old b) live in
@@ -71,19 +70,20 @@ out_here old now masks outs changed b graph are s x e =
     found_id y e = id_found old.blocks b y e
 
 pub sweeping :
-    (old now : GraphView) (masks : Place → ℕ → Bool) (outs : List ℕ) (changed : Bool) (b out : ℕ) → IsGraph old → AreOuts old masks old.blocks outs → IsSwept masks old now changed →
+    (old now : GraphView) (masks : Place → ℕ → Bool) (outs : List ℕ) (changed : Bool) (b out : ℕ) → IsGraph old → AreOuts old masks old.blocks outs → IsSwept masks (outs_of old masks) old now changed →
     out ≡ get_or outs b 0 → IsSweeping now b out
 sweeping old now masks outs changed b out graph are s e = record {
   masks = masks;
+  outs = outs_of old masks;
   old = old;
   changed = changed;
   swept = s;
-  outs = subst (λ (n : ℕ). IsOutOf old masks now b n) (sym e) (out_here old now masks outs changed b graph are s);
+  is_out = subst (λ (n : ℕ). IsOutOf (outs_of old masks) now b n) (sym e) (out_here old now masks outs changed b graph are s);
 }
 
 pub clean_more :
-    (old now new : GraphView) (masks : Place → ℕ → Bool) (changed deleted : Bool) (b out : ℕ) (done : List Block) (y : Block) → IsGraph old → IsSwept masks old now changed →
-    IsOutOf old masks now b out → IsSweptBlock now new b out deleted → Has old.blocks y → y.id ≡ b → Clean old masks done changed → Clean old masks (done ++ y ∷ []) (deleted || changed)
+    (old now new : GraphView) (masks : Place → ℕ → Bool) (changed deleted : Bool) (b out : ℕ) (done : List Block) (y : Block) → IsGraph old → IsSwept masks (outs_of old masks) old now changed →
+    IsOutOf (outs_of old masks) now b out → IsSweptBlock now new b out deleted → Has old.blocks y → y.id ≡ b → Clean old masks done changed → Clean old masks (done ++ y ∷ []) (deleted || changed)
 clean_more old now new masks changed deleted b out done y graph s outs is hy id clean = record { stays = by_bits deleted changed refl refl }
   where
     by_case : (x : Block) → changed ≡ false → deleted ≡ false → Has done x ⊎ Has (y ∷ []) x → HaveToStay old (outs_of old masks) x x.ops
@@ -92,7 +92,7 @@ clean_more old now new masks changed deleted b out done y graph s outs is hy id 
         let same : now ≡ old = s.same c in
         let here : block_of now b ≡ Some y = ap (λ (g : GraphView). block_of g b) same ∙ (found_here old graph y b hy id).0 in
         subst (λ (z : Block). HaveToStay old (outs_of old masks) z z.ops) e
-        (subst (λ (g : GraphView). HaveToStay g (outs_of old masks) y y.ops) same (is.stays d masks old changed s outs y here))
+        (subst (λ (g : GraphView). HaveToStay g (outs_of old masks) y y.ops) same (is.stays d masks (outs_of old masks) old changed s outs y here))
     by_case x c d (inr (inr h)) = absurd h
 
     by_bits : (d c : Bool) → deleted ≡ d → changed ≡ c → (d || c) ≡ false → (x : Block) → Has (done ++ y ∷ []) x → HaveToStay old (outs_of old masks) x x.ops
@@ -151,8 +151,8 @@ deleted_none g o = record {
   near = λ k n. n;
 }
 
-pub deleted_by : (masks : Place → ℕ → Bool) (old new : GraphView) (changed : Bool) → IsSwept masks old new changed → AreDeleted changed old new
-deleted_by masks old new changed s = record {
+pub deleted_by : (masks outs : Place → ℕ → Bool) (old new : GraphView) (changed : Bool) → IsSwept masks outs old new changed → AreDeleted changed old new
+deleted_by masks outs old new changed s = record {
   program = s.program;
   same = s.same;
   lighter = s.lighter;
@@ -161,8 +161,8 @@ deleted_by masks old new changed s = record {
   near = s.near;
 }
 
-pub rewritten_by : (masks : Place → ℕ → Bool) (old new : GraphView) (changed : Bool) → IsSwept masks old new changed → IsRewritten old new
-rewritten_by masks old new changed s p prog m = (s.each p prog m).deletions.rewrites
+pub rewritten_by : (masks outs : Place → ℕ → Bool) (old new : GraphView) (changed : Bool) → IsSwept masks outs old new changed → IsRewritten old new
+rewritten_by masks outs old new changed s p prog m = (s.each p prog m).deletions.rewrites
 
 pub rewritten_none : (g : GraphView) → IsRewritten g g
 rewritten_none g p prog m = (none_deleted p prog g m.graph m.kept m.reach).rewrites
@@ -260,10 +260,10 @@ when_err (Err e) p = p
 
 -- ---- one block more
 
-pub read_out :
-    (old now : GraphView) (masks : Place → ℕ → Bool) (outs : List ℕ) (changed : Bool) (b out : ℕ) (ids : List ℕ) → AreOuts old masks old.blocks outs → SweptTo old masks (Some b) now changed ids →
-    out ≡ get_or outs b out → out ≡ get_or outs b 0
-read_out old now masks outs changed b out ids are to e = e ∙ get_or_default outs b out 0 (are.room b to.on.live)
+pub out_room :
+    (old now : GraphView) (masks : Place → ℕ → Bool) (outs : List ℕ) (changed : Bool) (b : ℕ) (ids : List ℕ) → AreOuts old masks old.blocks outs → SweptTo old masks (Some b) now changed ids →
+    b < length outs
+out_room old now masks outs changed b ids are to = are.room b to.on.live
 
 if_live : (old new : GraphView) (o : Option ℕ) → ((id : ℕ) → is_live_block new id ≡ is_live_block old id) → IfSome o (λ n. IsTrue (is_live_block new n)) → IfSome o (λ n. IsTrue (is_live_block old n))
 if_live old new None same h = h
@@ -271,11 +271,14 @@ if_live old new (Some id) same h = sym (same id) ∙ h
 
 module _ (old now new : GraphView) (masks : Place → ℕ → Bool) (outs : List ℕ) (changed d : Bool) (b out : ℕ) (graph : IsGraph old) (are : AreOuts old masks old.blocks outs)
     (ids : List ℕ) (to : SweptTo old masks (Some b) now changed ids) (e : out ≡ get_or outs b 0) (is : IsSweptBlock now new b out d) where
-  here : IsOutOf old masks now b out
-  here = subst (λ (n : ℕ). IsOutOf old masks now b n) (sym e) (out_here old now masks outs changed b graph are to.swept)
+  here : IsOutOf (outs_of old masks) now b out
+  here = subst (λ (n : ℕ). IsOutOf (outs_of old masks) now b n) (sym e) (out_here old now masks outs changed b graph are to.swept)
 
-  swept_then : IsSwept masks old new (d || changed)
-  swept_then = is.swept masks old changed to.swept here
+  swept_then : IsSwept masks (outs_of old masks) old new (d || changed)
+  swept_then = is.swept masks (outs_of old masks) old changed to.swept here
+
+  pub then_rewritten : IsRewritten old new
+  then_rewritten = rewritten_by masks (outs_of old masks) old new (d || changed) swept_then
 
   pub then_live : is_live_block new b ≡ true
   then_live = live_same old new swept_then.blocks b ∙ to.on.live
@@ -289,7 +292,7 @@ module _ (old now new : GraphView) (masks : Place → ℕ → Bool) (outs : List
 
     pub swept_more : (more : List ℕ) → more ≡ [] → IfSome next (λ k. IsTrue (is_live_block new k)) → SweptTo old masks next new (changed || d) more
     swept_more more none live = record {
-      swept = subst (λ (t : Bool). IsSwept masks old new t) (or_turned d changed) swept_then;
+      swept = subst (λ (t : Bool). IsSwept masks (outs_of old masks) old new t) (or_turned d changed) swept_then;
       empty = none;
       on = subst (λ (t : Bool). OnBlocks Bool (Clean old masks) old next t) (or_turned d changed)
           (blocks_more Bool (Clean old masks) old graph b next changed (d || changed) to.on

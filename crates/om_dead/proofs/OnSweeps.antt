@@ -43,8 +43,8 @@ use Rattle.om_dead.proofs.Shapes.{address_word, address_writes, words_from, ops_
 pub going : {p : ProgramView} {a b : GraphView} → GoesOn p a b → MayGoOn p b
 going x = record { graph = x.graph; kept = x.kept; reach = x.reach }
 
-pub now_of : (masks : Place → ℕ → Bool) (old now : GraphView) (changed : Bool) → IsSwept masks old now changed → IsOfAProgram now
-now_of masks old now changed s =
+pub now_of : (masks outs : Place → ℕ → Bool) (old now : GraphView) (changed : Bool) → IsSwept masks outs old now changed → IsOfAProgram now
+now_of masks outs old now changed s =
     let o = s.program in
     record { program = o.program; valid = o.valid; may_go_on = going (s.each o.program o.valid o.may_go_on).deletions.rewrites.goes_on }
 
@@ -54,14 +54,16 @@ flow_of g o = has_flow o.program o.valid g o.may_go_on.graph
 pub graph_of : (g : GraphView) → IsOfAProgram g → IsGraph g
 graph_of g o = o.may_go_on.graph.graph
 
-pub swept_none : (masks : Place → ℕ → Bool) (g : GraphView) → IsOfAProgram g → MaskChecked masks g → IsSwept masks g g false
-swept_none masks g o checked = record {
+pub swept_none :
+    (masks outs : Place → ℕ → Bool) (g : GraphView) → IsOfAProgram g → MaskChecked masks g →
+    ((c : Block) (r : ℕ) → Has g.blocks c → r < 31 → outs_of g masks c.label r ≡ true → outs c.label r ≡ true) → IsSwept masks outs g g false
+swept_none masks outs g o checked fewer = record {
   program = o;
   each = λ p prog m. record {
     deletions = none_deleted p prog g m.graph m.kept m.reach;
     fits = λ gp address fit. fit;
     checked = checked;
-    fewer = λ c r h l e. e;
+    fewer = fewer;
   };
   same = λ e. refl;
   lighter = λ e. absurd (true≢false (sym e));
@@ -237,8 +239,8 @@ op_gone g outs id ids o live n = record {
 
 -- ---- one deletion more
 
-module _ (masks : Place → ℕ → Bool) (old g : GraphView) (changed : Bool) (s : IsSwept masks old g changed) (id : ℕ) (ids : List ℕ) (o live : ℕ)
-    (n : NextOp g (outs_of old masks) id ids o live) (may : MayGo g n.node.op (live_over_ops n.behind (end_live (outs_of old masks) n.block))) (numbered : AreNumbered g) where
+module _ (masks outs : Place → ℕ → Bool) (old g : GraphView) (changed : Bool) (s : IsSwept masks outs old g changed) (id : ℕ) (ids : List ℕ) (o live : ℕ)
+    (n : NextOp g outs id ids o live) (may : MayGo g n.node.op (live_over_ops n.behind (end_live outs n.block))) (numbered : AreNumbered g) where
   abbrev b : Block
   b = n.block
 
@@ -262,7 +264,7 @@ module _ (masks : Place → ℕ → Bool) (old g : GraphView) (changed : Bool) (
   in_ops m h = subst (λ (l : List Node). Has l m) (sym n.ops) (all_in n.before m h)
 
   module _ (p : ProgramView) (prog : IsProgram p) (start : MayGoOn p old) where
-    f : IsSweptFor p masks old g
+    f : IsSweptFor p masks outs old g
     f = s.each p prog start
 
     m : MayGoOn p g
@@ -277,12 +279,12 @@ module _ (masks : Place → ℕ → Bool) (old g : GraphView) (changed : Bool) (
     dead : (r : ℕ) → Among (act_writes w.act) r → (r ≡ 31) ⊎ ((r < 31) × (live_in ws (outs_of g masks b.label) r ≡ false))
     dead r h = by_case (may.dead r (subst (λ (l : List ℕ). Among l r) (address_writes (ops_of b) (n.node.op).kind may.address) h))
       where
-        by_case : (r ≡ 31) ⊎ ((r < 31) × (live_over_ops n.behind (end_live (outs_of old masks) b) r ≡ false)) → (r ≡ 31) ⊎ ((r < 31) × (live_in ws (outs_of g masks b.label) r ≡ false))
+        by_case : (r ≡ 31) ⊎ ((r < 31) × (live_over_ops n.behind (end_live outs b) r ≡ false)) → (r ≡ 31) ⊎ ((r < 31) × (live_in ws (outs_of g masks b.label) r ≡ false))
         by_case (inl e) = inl e
         by_case (inr e) = inr (
           e.0,
-          live_less ws (outs_of old masks b.label) (outs_of g masks b.label) r (λ t. f.fewer b r n.among e.0 t)
-              (ops_live (ops_of b) n.behind b.last (outs_of old masks b.label) r (m.graph.form.lasts b n.among) right ∙ e.1),
+          live_less ws (outs b.label) (outs_of g masks b.label) r (λ t. f.fewer b r n.among e.0 t)
+              (ops_live (ops_of b) n.behind b.last (outs b.label) r (m.graph.form.lasts b n.among) right ∙ e.1),
         )
 
     is_op : IsOp g o b n.node
@@ -306,15 +308,15 @@ module _ (masks : Place → ℕ → Bool) (old g : GraphView) (changed : Bool) (
     still : FitsStill p old (deleted g o)
     still gp table fit = delete_fits p gp table prog g m.graph (f.fits gp table fit) o b n.node is_op address no_half then
 
-    fewer : (c : Block) (r : ℕ) → Has (deleted g o).blocks c → r < 31 → outs_of (deleted g o) masks c.label r ≡ true → outs_of old masks c.label r ≡ true
+    fewer : (c : Block) (r : ℕ) → Has (deleted g o).blocks c → r < 31 → outs_of (deleted g o) masks c.label r ≡ true → outs c.label r ≡ true
     fewer c r h l e =
         let k = of_map (delete_in o) g.blocks c h in
         let q : (k.0).label ≡ c.label = ap (λ (x : Block). x.label) k.2 in
         let t = outs_after p prog g m o b n.node is_op address behind_it no_half masks (outs_of g masks) f.checked (are_outs g m.graph.graph.blocks masks) stands.0 ws stands.1 dead (outs_of (deleted g o) masks)
         (are_outs (deleted g o) then.graph.blocks masks) c r h l e in
-        subst (λ (q : Place). outs_of old masks q r ≡ true) q (f.fewer k.0 r k.1 l (subst (λ (q : Place). outs_of g masks q r ≡ true) (sym q) t))
+        subst (λ (q : Place). outs q r ≡ true) q (f.fewer k.0 r k.1 l (subst (λ (q : Place). outs_of g masks q r ≡ true) (sym q) t))
 
-    swept_for : IsSweptFor p masks old (deleted g o)
+    swept_for : IsSweptFor p masks outs old (deleted g o)
     swept_for = record {
       deletions = more_deleted p old g (deleted g o) f.deletions step;
       fits = still;
@@ -328,13 +330,13 @@ module _ (masks : Place → ℕ → Bool) (old g : GraphView) (changed : Bool) (
         let k = step.rewrite.lighter in
         omega (arith, l, k)
 
-  pub one_more : IsSwept masks old (deleted g o) true
+  pub one_more : IsSwept masks outs old (deleted g o) true
   one_more = record {
     program = s.program;
     each = swept_for;
     same = λ e. absurd (true≢false e);
     lighter = λ e. lighter s.program.program s.program.valid s.program.may_go_on;
-    near = λ k near. deleted_near g k o (graph_of g (now_of masks old g changed s)) numbered (ap is_some n.with_it) (s.near k near);
+    near = λ k near. deleted_near g k o (graph_of g (now_of masks outs old g changed s)) numbered (ap is_some n.with_it) (s.near k near);
     blocks = stripped_deleted o g.blocks ∙ s.blocks;
   }
 
@@ -343,15 +345,15 @@ module _ (masks : Place → ℕ → Bool) (old g : GraphView) (changed : Bool) (
 pub record AtWord (from g : GraphView) (id out : ℕ) (deleted : Bool) (ids : List ℕ) (live : ℕ) : Type 0 where
   pub same : deleted ≡ false → g ≡ from
   pub swept :
-      (masks : Place → ℕ → Bool) (old : GraphView) (changed : Bool) → IsSwept masks old from changed →
-      IsOutOf old masks from id out → IsSwept masks old g (deleted || changed) × InBlock g (outs_of old masks) id ids live
+      (masks outs : Place → ℕ → Bool) (old : GraphView) (changed : Bool) → IsSwept masks outs old from changed →
+      IsOutOf outs from id out → IsSwept masks outs old g (deleted || changed) × InBlock g outs id ids live
 
 pub begins :
     (from : GraphView) (id out live : ℕ) (ids : List ℕ) (x : Block) → block_of from id ≡ Some x → AreOpsOf from id ids →
     ((set : ℕ → Bool) → HasBits out set → HasBits live (live_over_last x.last set)) → AtWord from from id out false ids live
 begins from id out live ids x e ops front = record {
   same = λ q. refl;
-  swept = λ masks old changed s is. (
+  swept = λ masks outs old changed s is. (
     s,
     record {
       block = x;
@@ -360,7 +362,7 @@ begins from id out live ids x e ops front = record {
       behind = [];
       ops = sym (no_more x.ops);
       ids_are = sym (ops x e);
-      bits = front (outs_of old masks x.label) (is x e);
+      bits = front (outs x.label) (is x e);
       stays = λ xs m ys q. absurd (nothing xs m ys q);
     },
   );
@@ -376,10 +378,10 @@ begins from id out live ids x e ops front = record {
 
 -- what a sweep that has begun gives
 pub now_at : (from g : GraphView) (id out live : ℕ) (deleted : Bool) (ids : List ℕ) → IsSweeping from id out → AtWord from g id out deleted ids live → IsOfAProgram g
-now_at from g id out live deleted ids k a = now_of k.masks k.old g (deleted || k.changed) (a.swept k.masks k.old k.changed k.swept k.outs).0
+now_at from g id out live deleted ids k a = now_of k.masks k.outs k.old g (deleted || k.changed) (a.swept k.masks k.outs k.old k.changed k.swept k.is_out).0
 
-pub in_block : (from g : GraphView) (id out live : ℕ) (deleted : Bool) (ids : List ℕ) (k : IsSweeping from id out) → AtWord from g id out deleted ids live → InBlock g (outs_of k.old k.masks) id ids live
-in_block from g id out live deleted ids k a = (a.swept k.masks k.old k.changed k.swept k.outs).1
+pub in_block : (from g : GraphView) (id out live : ℕ) (deleted : Bool) (ids : List ℕ) (k : IsSweeping from id out) → AtWord from g id out deleted ids live → InBlock g k.outs id ids live
+in_block from g id out live deleted ids k a = (a.swept k.masks k.outs k.old k.changed k.swept k.is_out).1
 
 pub op_more :
     (from g h : GraphView) (id out live : ℕ) (deleted_so : Bool) (ids : List ℕ) (o : ℕ) (x : Op) (r : SweptOp) → IsOfAProgram g → AtWord from g id out deleted_so (ids ++ o ∷ []) live →
@@ -392,31 +394,31 @@ op_more from g h id out live so ids o x r program a e is = by_case r.deleted ref
     by_case : (t : Bool) → r.deleted ≡ t → AtWord from h id out (t || so) ids r.live
     by_case true q = record { same = λ z. absurd (true≢false z); swept = swept }
       where
-        swept : (masks : Place → ℕ → Bool) (old : GraphView) (changed : Bool) → IsSwept masks old from changed → IsOutOf old masks from id out → IsSwept masks old h true × InBlock h (outs_of old masks) id ids r.live
-        swept masks old changed s outs =
-            let k = a.swept masks old changed s outs in
-            let n = next_op g graph (outs_of old masks) id ids o live k.1 in
+        swept : (masks outs : Place → ℕ → Bool) (old : GraphView) (changed : Bool) → IsSwept masks outs old from changed → IsOutOf outs from id out → IsSwept masks outs old h true × InBlock h outs id ids r.live
+        swept masks outs old changed s are =
+            let k = a.swept masks outs old changed s are in
+            let n = next_op g graph outs id ids o live k.1 in
             let same : n.node.op ≡ x = some_is n.node.op x (sym n.op_is ∙ e) in
-            let may = subst (λ (y : Op). MayGo g y (live_over_ops n.behind (end_live (outs_of old masks) n.block))) (sym same) (is.may q _ n.bits) in (
-              subst (λ (y : GraphView). IsSwept masks old y true) (sym (is.gone q)) (one_more masks old g (so || changed) k.0 id ids o live n may is.numbered),
-              subst (λ (y : GraphView). InBlock y (outs_of old masks) id ids r.live) (sym (is.gone q)) (subst (λ (l : ℕ). InBlock (deleted g o) (outs_of old masks) id ids l) (sym (is.same q)) (op_gone g (outs_of old masks) id ids o live n)),
+            let may = subst (λ (y : Op). MayGo g y (live_over_ops n.behind (end_live outs n.block))) (sym same) (is.may q _ n.bits) in (
+              subst (λ (y : GraphView). IsSwept masks outs old y true) (sym (is.gone q)) (one_more masks outs old g (so || changed) k.0 id ids o live n may is.numbered),
+              subst (λ (y : GraphView). InBlock y outs id ids r.live) (sym (is.gone q)) (subst (λ (l : ℕ). InBlock (deleted g o) outs id ids l) (sym (is.same q)) (op_gone g outs id ids o live n)),
             )
     by_case false q = record { same = λ z. is.kept q ∙ a.same z; swept = swept }
       where
-        swept : (masks : Place → ℕ → Bool) (old : GraphView) (changed : Bool) → IsSwept masks old from changed → IsOutOf old masks from id out → IsSwept masks old h (so || changed) × InBlock h (outs_of old masks) id ids r.live
-        swept masks old changed s outs =
-            let k = a.swept masks old changed s outs in
-            let n = next_op g graph (outs_of old masks) id ids o live k.1 in
+        swept : (masks outs : Place → ℕ → Bool) (old : GraphView) (changed : Bool) → IsSwept masks outs old from changed → IsOutOf outs from id out → IsSwept masks outs old h (so || changed) × InBlock h outs id ids r.live
+        swept masks outs old changed s are =
+            let k = a.swept masks outs old changed s are in
+            let n = next_op g graph outs id ids o live k.1 in
             let same : n.node.op ≡ x = some_is n.node.op x (sym n.op_is ∙ e) in
-            let told = subst (λ (y : Op). HasBits r.live (live_over y.kind (live_over_ops n.behind (end_live (outs_of old masks) n.block)))) (sym same) (is.told q _ n.bits) in
-            let stay = subst (λ (y : Op). HasToStay g y (live_over_ops n.behind (end_live (outs_of old masks) n.block))) (sym same) (is.stays q _ n.bits) in (
-              subst (λ (y : GraphView). IsSwept masks old y (so || changed)) (sym (is.kept q)) k.0,
-              subst (λ (y : GraphView). InBlock y (outs_of old masks) id ids r.live) (sym (is.kept q)) (op_kept g (outs_of old masks) id ids o live r.live n told stay),
+            let told = subst (λ (y : Op). HasBits r.live (live_over y.kind (live_over_ops n.behind (end_live outs n.block)))) (sym same) (is.told q _ n.bits) in
+            let stay = subst (λ (y : Op). HasToStay g y (live_over_ops n.behind (end_live outs n.block))) (sym same) (is.stays q _ n.bits) in (
+              subst (λ (y : GraphView). IsSwept masks outs old y (so || changed)) (sym (is.kept q)) k.0,
+              subst (λ (y : GraphView). InBlock y outs id ids r.live) (sym (is.kept q)) (op_kept g outs id ids o live r.live n told stay),
             )
 
 pub op_live : (from g : GraphView) (id out live : ℕ) (deleted : Bool) (ids : List ℕ) (o : ℕ) → IsSweeping from id out → AtWord from g id out deleted (ids ++ o ∷ []) live → is_live_op g o ≡ true
 op_live from g id out live deleted ids o k a =
-    let n = next_op g (graph_of g (now_at from g id out live deleted (ids ++ o ∷ []) k a)) (outs_of k.old k.masks) id ids o live (in_block from g id out live deleted (ids ++ o ∷ []) k a) in
+    let n = next_op g (graph_of g (now_at from g id out live deleted (ids ++ o ∷ []) k a)) k.outs id ids o live (in_block from g id out live deleted (ids ++ o ∷ []) k a) in
     ap is_some n.with_it
 
 pub any_more :
@@ -424,25 +426,25 @@ pub any_more :
     ((x : Op) → op_of g o ≡ Some x → IsSweptOp g h o x live r) → AtWord from h id out (so || r.deleted) ids r.live
 any_more from g h id out live so ids o r k a is =
     let program = now_at from g id out live so (ids ++ o ∷ []) k a in
-    let n = next_op g (graph_of g program) (outs_of k.old k.masks) id ids o live (in_block from g id out live so (ids ++ o ∷ []) k a) in
+    let n = next_op g (graph_of g program) k.outs id ids o live (in_block from g id out live so (ids ++ o ∷ []) k a) in
     subst (λ (t : Bool). AtWord from h id out t ids r.live) (or_turned r.deleted so)
     (op_more from g h id out live so ids o n.node.op r program a n.op_is (is n.node.op n.op_is))
 
 pub ends : (from g : GraphView) (id out live : ℕ) (deleted : Bool) → AtWord from g id out deleted [] live → IsSweptBlock from g id out deleted
 ends from g id out live deleted a = record {
   same = a.same;
-  swept = λ masks old changed s is. (a.swept masks old changed s is).0;
+  swept = λ masks outs old changed s is. (a.swept masks outs old changed s is).0;
   stays = stays;
 }
   where
     stays :
-        deleted ≡ false → (masks : Place → ℕ → Bool) (old : GraphView) (changed : Bool) → IsSwept masks old from changed → IsOutOf old masks from id out →
-        (x : Block) → block_of from id ≡ Some x → HaveToStay from (outs_of old masks) x x.ops
-    stays q masks old changed s is x e xs m ys k =
-        let i = (a.swept masks old changed s is).1 in
+        deleted ≡ false → (masks outs : Place → ℕ → Bool) (old : GraphView) (changed : Bool) → IsSwept masks outs old from changed → IsOutOf outs from id out →
+        (x : Block) → block_of from id ≡ Some x → HaveToStay from outs x x.ops
+    stays q masks outs old changed s is x e xs m ys k =
+        let i = (a.swept masks outs old changed s is).1 in
         let here : block_of g id ≡ Some x = ap (λ (y : GraphView). block_of y id) (a.same q) ∙ e in
         let same : i.block ≡ x = some_is i.block x (sym i.is ∙ here) in
         let behind : i.behind ≡ x.ops = sym (i.ops ∙ ap (λ (l : List Node). l ++ i.behind) (none_of i.before i.ids_are)) ∙ ap (λ (y : Block). y.ops) same in
         let t = i.stays xs m ys (behind ∙ k) in
-        subst (λ (y : GraphView). HasToStay y m.op (live_over_ops ys (end_live (outs_of old masks) x))) (a.same q)
-        (subst (λ (y : Block). HasToStay g m.op (live_over_ops ys (end_live (outs_of old masks) y))) same t)
+        subst (λ (y : GraphView). HasToStay y m.op (live_over_ops ys (end_live outs x))) (a.same q)
+        (subst (λ (y : Block). HasToStay g m.op (live_over_ops ys (end_live outs y))) same t)

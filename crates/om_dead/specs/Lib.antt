@@ -1,3 +1,4 @@
 pub mod Finding
+pub mod Lowering
 pub mod Sweeps
 pub mod Words

@@ -83,19 +83,19 @@ pub record IsSweptOp (old new : GraphView) (id : ℕ) (o : Op) (live : ℕ) (s :
 abbrev pub stripped : Block → Block
 stripped b = record b { ops = [] }
 
--- what deletion by masks of the old graph made of it, for a program of which that is a graph
-pub record IsSweptFor (p : ProgramView) (masks : Place → ℕ → Bool) (old now : GraphView) : Type 0 where
+-- what deletion made of the old graph by masks and by what may be read from the ends of blocks on, for a program of which
+-- that is a graph
+pub record IsSweptFor (p : ProgramView) (masks outs : Place → ℕ → Bool) (old now : GraphView) : Type 0 where
   pub deletions : Deletions p old now
   pub fits : FitsStill p old now
-  -- the masks pass the check still, and no more may be read behind any block
+  -- the masks pass the check still, and no more may be read from the end of any block on
   pub checked : MaskChecked masks now
   pub fewer :
-      (c : Block) (r : ℕ) → Has now.blocks c → r < 31 → outs_of now masks c.label r ≡ true →
-      outs_of old masks c.label r ≡ true
+      (c : Block) (r : ℕ) → Has now.blocks c → r < 31 → outs_of now masks c.label r ≡ true → outs c.label r ≡ true
 
-pub record IsSwept (masks : Place → ℕ → Bool) (old now : GraphView) (changed : Bool) : Type 0 where
+pub record IsSwept (masks outs : Place → ℕ → Bool) (old now : GraphView) (changed : Bool) : Type 0 where
   pub program : IsOfAProgram old
-  pub each : (p : ProgramView) → IsProgram p → MayGoOn p old → IsSweptFor p masks old now
+  pub each : (p : ProgramView) → IsProgram p → MayGoOn p old → IsSweptFor p masks outs old now
   pub same : changed ≡ false → now ≡ old
   pub lighter : changed ≡ true → weight now < weight old
   pub near : (k : Kept) → IsNearly old k → IsNearly now k
@@ -104,8 +104,8 @@ pub record IsSwept (masks : Place → ℕ → Bool) (old now : GraphView) (chang
 -- ---- a block
 
 -- these registers may be read from its end on
-abbrev pub IsOutOf : GraphView → (Place → ℕ → Bool) → GraphView → ℕ → ℕ → Type 0
-IsOutOf old masks g id out = (x : Block) → block_of g id ≡ Some x → HasBits out (outs_of old masks x.label)
+abbrev pub IsOutOf : (Place → ℕ → Bool) → GraphView → ℕ → ℕ → Type 0
+IsOutOf outs g id out = (x : Block) → block_of g id ≡ Some x → HasBits out (outs x.label)
 
 -- what may be read in front of the word that ends it
 abbrev pub end_live : (Place → ℕ → Bool) → Block → ℕ → Bool
@@ -120,20 +120,21 @@ HaveToStay g outs x ops =
 -- some deletion has begun that this block is to be a part of
 pub record IsSweeping (g : GraphView) (id out : ℕ) : Type 0 where
   pub masks : Place → ℕ → Bool
+  pub outs : Place → ℕ → Bool
   pub old : GraphView
   pub changed : Bool
-  pub swept : IsSwept masks old g changed
-  pub outs : IsOutOf old masks g id out
+  pub swept : IsSwept masks outs old g changed
+  pub is_out : IsOutOf outs g id out
 
 pub record IsSweptBlock (from new : GraphView) (id out : ℕ) (deleted : Bool) : Type 0 where
   pub same : deleted ≡ false → new ≡ from
   pub swept :
-      (masks : Place → ℕ → Bool) (old : GraphView) (changed : Bool) → IsSwept masks old from changed →
-      IsOutOf old masks from id out → IsSwept masks old new (deleted || changed)
+      (masks outs : Place → ℕ → Bool) (old : GraphView) (changed : Bool) → IsSwept masks outs old from changed →
+      IsOutOf outs from id out → IsSwept masks outs old new (deleted || changed)
   pub stays :
-      deleted ≡ false → (masks : Place → ℕ → Bool) (old : GraphView) (changed : Bool) →
-      IsSwept masks old from changed → IsOutOf old masks from id out → (x : Block) → block_of from id ≡ Some x →
-      HaveToStay from (outs_of old masks) x x.ops
+      deleted ≡ false → (masks outs : Place → ℕ → Bool) (old : GraphView) (changed : Bool) →
+      IsSwept masks outs old from changed → IsOutOf outs from id out → (x : Block) → block_of from id ≡ Some x →
+      HaveToStay from outs x x.ops
 
 -- the ops of a block
 abbrev pub AreOpsOf : GraphView → ℕ → List ℕ → Type 0

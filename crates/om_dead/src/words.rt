@@ -1,5 +1,5 @@
 //! Words whose results are dead.
-ghost use Rattle.std.specs.Prelude.{◌≡◌, ◌<◌, ◌↔◌, ℕ, Bool, true, false, [], IsTrue, IfOk, OnOk, OnErr, Some};
+ghost use Rattle.std.specs.Prelude.{◌≡◌, ◌<◌, ◌↔◌, ℕ, Bool, true, false, [], IsTrue, IfOk, OnOk, OnErr, Some, length, get_or};
 ghost use Rattle.std.specs.Int.{w32, bit_not};
 ghost use Rattle.std.specs.Int.Bits.{bit_and, bit_or};
 ghost use Rattle.om_graph.specs.declared.op.Op.{Op as AnyOp};
@@ -11,10 +11,12 @@ ghost use Rattle.om_graph.specs.Left.{NoDeadWord};
 ghost use Rattle.om_blocks.specs.Found.{masks_in};
 ghost use Rattle.om_live.specs.Exact.{AreExact};
 ghost use Rattle.om_passes.specs.Passed.{IsOfAProgram};
-ghost use Rattle.om_live.specs.Outs.{HasBits};
+ghost use Rattle.om_live.specs.Outs.{HasBits, AreOuts};
 ghost use Rattle.om_dead.specs.Sweeps.{kind_address, InText, MayGo, HasToStay, IsSweptOp, IsSwept, IsSweeping, IsSweptBlock, AreOpsOf};
 ghost use Rattle.om_dead.specs.Words.{IsWithoutDead, IsCleared, IsRewritten, AreDeleted};
 
+use crate::following::Following;
+use crate::masks::{Masks, starts_of};
 use om_blocks::{last_reads, last_writes, reads_of, writes_of};
 use om_graph::{BlockId, Graph, Last, Op, OpId, OpKind};
 use om_io::NoMemory;
@@ -28,6 +30,16 @@ struct SweptOp {
     deleted: bool,
     // The registers that may be read in front of it.
     live: u32,
+    // Those that it read, where it was deleted.
+    bases: u32,
+}
+
+// A block of which ops were deleted, and the registers that they read.
+#[derive(Clone, Copy)]
+pub(crate) struct Loss {
+    pub(crate) number: usize,
+    pub(crate) label: Place,
+    pub(crate) bases: u32,
 }
 
 // Whether an op came from a load of an address or a half of a pair.
@@ -98,16 +110,24 @@ fn sweep_op(g: &mut Graph, o: OpId, live: u32) -> SweptOp
         return SweptOp {
             deleted: true,
             live,
+            bases: reads_of(&op.kind),
         };
     }
     SweptOp {
         deleted: false,
         live: in_front(reads_of(&op.kind), writes_of(&op.kind), live),
+        bases: 0,
     }
 }
 
 // Deletes the dead words of a block, whose ops these are, where `out` may be read from its end on. Whether there was one.
-fn sweep_block(g: &mut Graph, ops: &mut Vec<OpId>, b: BlockId, out: u32) -> bool
+pub(crate) fn sweep_block(
+    g: &mut Graph,
+    ops: &mut Vec<OpId>,
+    b: BlockId,
+    out: u32,
+    bases: &mut u32,
+) -> bool
     requires sweeping { IsSweeping g.old b out }
     requires live { IsTrue (is_live_block g.old b) }
     requires ops { AreOpsOf g.old b ops.old.items }
@@ -122,12 +142,13 @@ fn sweep_block(g: &mut Graph, ops: &mut Vec<OpId>, b: BlockId, out: u32) -> bool
         let swept = sweep_op(g, o, live);
         live = swept.live;
         deleted |= swept.deleted;
+        *bases |= swept.bases;
     }
     deleted
 }
 
 // The ops of a block, in order, into a list that is empty.
-fn list_ops(ops: &mut Vec<OpId>, g: &Graph, b: BlockId) -> Result<(), NoMemory>
+pub(crate) fn list_ops(ops: &mut Vec<OpId>, g: &Graph, b: BlockId) -> Result<(), NoMemory>
     requires graph { IsGraph g.now }
     requires live { IsTrue (is_live_block g.now b) }
     requires empty { ops.old.items ≡ [] }
@@ -141,22 +162,54 @@ fn list_ops(ops: &mut Vec<OpId>, g: &Graph, b: BlockId) -> Result<(), NoMemory>
     Ok(())
 }
 
-// Deletes words that are dead by the masks of the graph. Whether there was one.
-fn sweep(alloc: Global, g: &mut Graph, l: &Live) -> Result<bool, NoMemory>
+// Notes a block of which ops were deleted that read these registers.
+fn note(losses: &mut Vec<Loss>, g: &Graph, b: BlockId, bases: u32) -> Result<(), NoMemory>
+    requires { IsTrue (is_live_block g.now b) }
+{
+    if bases == 0 {
+        return Ok(());
+    }
+    losses.push(Loss {
+        number: b.number(),
+        label: g.label(b),
+        bases,
+    })?;
+    Ok(())
+}
+
+// What may be read from the end of a block on.
+fn end_of(outs: &[u32], b: BlockId) -> u32
+    requires { b < length outs.now }
+    ensures { result ≡ get_or outs.now b 0 }
+{
+    outs[b.number()]
+}
+
+// Deletes words that are dead by the masks of the graph, of which `outs` are computed. Whether there was one.
+fn sweep(
+    alloc: Global,
+    g: &mut Graph,
+    l: &Live,
+    outs: &[u32],
+    losses: &mut Vec<Loss>,
+) -> Result<bool, NoMemory>
     requires of { IsOfAProgram g.old }
     requires exact { AreExact g.old l.now }
-    ensures swept { IfOk result (λ changed. IsSwept (masks_in g.old l.now) g.old g.new changed) }
+    requires outs { AreOuts g.old (masks_in g.old l.now) g.old.blocks outs.now }
+    ensures swept { IfOk result (λ changed. IsSwept (masks_in g.old l.now) (outs_by g.old (masks_in g.old l.now)) g.old g.new changed) }
     ensures none { IfOk result (λ changed. changed ≡ false → NoDeadWord (outs_by g.old (masks_in g.old l.now)) g.old) }
     ensures stopped { OnErr result (IsRewritten g.old g.new) }
 {
     g.is_graph();
-    let outs = outs_of(alloc, g, l)?;
     let mut ops = Vec::new(alloc);
     let mut changed = false;
     let mut next = g.first_block();
     while let Some(b) = next {
         list_ops(&mut ops, g, b)?;
-        changed |= sweep_block(g, &mut ops, b, outs[b.number()]);
+        let out = end_of(outs, b);
+        let mut bases = 0;
+        changed |= sweep_block(g, &mut ops, b, out, &mut bases);
+        note(losses, g, b, bases)?;
         next = g.next_block(b);
     }
     Ok(changed)
@@ -169,9 +222,18 @@ fn delete_some(alloc: Global, g: &mut Graph) -> Result<bool, NoMemory>
     ensures none { IfOk result (λ changed. changed ≡ false → IsWithoutDead g.new) }
     ensures stopped { OnErr result (IsRewritten g.old g.new) }
 {
+    g.is_graph();
     let live = solve(alloc, g)?;
-    let changed = sweep(alloc, g, &live)?;
-    Ok(changed)
+    let ends = outs_of(alloc, g, &live)?;
+    let starts = starts_of(alloc, g, &live)?;
+    let mut losses = Vec::new(alloc);
+    let changed = sweep(alloc, g, &live, ends.as_slice(), &mut losses)?;
+    if !changed {
+        return Ok(false);
+    }
+    let mut following = Following::of(alloc, g, Masks { starts, ends }, losses.as_slice())?;
+    following.go_on(g)?;
+    Ok(true)
 }
 
 /// Deletes the words that came from loads of addresses and from pairs and whose results are dead, until there is none but

@@ -36,7 +36,7 @@ returns c = λ x e.
       told = λ t out is.
           subst (λ (y : Op). HasBits c.in_front.result (live_over y.kind out)) same
           (subst (λ (n : ℕ). HasBits n (live_over (c.op-op.result).kind out)) (sym c.in_front.ensures)
-          (bits_in_front (kind_reads (c.op-op.result).kind) (kind_writes (c.op-op.result).kind) c.reads_of.result c.writes_of.result c.args.live out c.reads_of.ensures c.writes_of.ensures (omega arith) is));
+          (bits_in_front (kind_reads (c.op-op.result).kind) (kind_writes (c.op-op.result).kind) c.reads_of-2.result c.writes_of.result c.args.live out c.reads_of-2.ensures c.writes_of.ensures (omega arith) is));
       stays = λ t out is. subst (λ (y : Op). HasToStay c.args.g.now y out) same (c.if-may_go.ensures.stays refl out is);
       numbered = c.is_numbered.ensures;
     }
