@@ -37,3 +37,6 @@ pub mod IdleLoads
 pub mod IdleLoops
 pub mod IdleDone
 pub mod OutsStay
+pub mod WholePass
+pub mod Splits
+pub mod SplitLoops

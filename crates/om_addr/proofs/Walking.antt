@@ -106,7 +106,7 @@ replaced_at g graph n at k = record {
   stands = ap (map (kind_set n.id k)) at.stands ∙ kinds_here at.before n at.behind k (ids_apart g graph n at);
 }
 
-node_ids_set : (id : ℕ) (k : OpKind) (ns : List Node) → node_ids (map (kind_set id k) ns) ≡ node_ids ns
+pub node_ids_set : (id : ℕ) (k : OpKind) (ns : List Node) → node_ids (map (kind_set id k) ns) ≡ node_ids ns
 node_ids_set id k [] = refl
 node_ids_set id k (n ∷ ns) = by_test (n.id == id) (node_ids_set id k ns)
   where

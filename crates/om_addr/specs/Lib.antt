@@ -11,3 +11,6 @@ pub mod FarTest
 pub mod FarEdit
 pub mod NearDone
 pub mod Idle
+pub mod FarDone
+pub mod Split
+pub mod Whole

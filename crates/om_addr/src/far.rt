@@ -13,6 +13,7 @@ ghost use Rattle.om_addr.specs.Loads.{IsLoadOf, HasPointer};
 ghost use Rattle.om_addr.specs.Near.{IsTame, IsSaid};
 ghost use Rattle.om_addr.specs.FarRow.{AreSetBehind};
 ghost use Rattle.om_addr.specs.FarTest.{base_of_kind, half_kind, writes_it};
+ghost use Rattle.om_addr.specs.Split.{KeepsEnds};
 ghost use Rattle.om_addr.specs.FarEdit.{no_bases, with_disp, with_op as bases_with_op, high_part as high_of, quotient_at, one_half, half_of, AreShort, AllShort, AreBasesOf, IsFarEdit, IsDeadAtEnd, NoFarOf};
 
 use crate::base_uses::{disp_of, is_base};
@@ -275,6 +276,7 @@ pub(crate) fn split_address(
     requires tame { IsTame at.now }
     ensures passed { (l : LayoutView) → (masks : List ℕ) → IsSaid l load.now (Some at.now) →
         (live ≡ false → IsDeadAtEnd masks g.old load.now) → Reducing l masks result g.old g.new }
+    ensures ends { KeepsEnds g.old g.new }
     ensures nothing { (l : LayoutView) → IsSaid l load.now (Some at.now) → result ≡ false →
         NoFarOf l g.old load.now live }
 {

@@ -7,6 +7,7 @@ use Rattle.om_addr.specs.FarEdit.{one_half, IsFarEdit}
 use Rattle.om_addr.proofs.InARow.{none, more}
 use Rattle.om_addr.proofs.FarSplit.{small_register, far_once}
 use Rattle.om_addr.proofs.FarServes.{half_is, edit_is, near_is, is_not, not_not}
+use Rattle.om_addr.proofs.Splits.{same_ends, far_ends}
 use Rattle.om_addr.proofs.FarLeft.{none_live, none_31, none_near, none_found, none_any, none_half}
 use Rattle.om_addr.proofs.far.split_address.Goals.{then-live-via-then-live, then-live-via-else-live+then-num-eq31, then-live-via-else-live+else-num-eq31+then-is_small, then-not-all-via-then-not-all, then-not-all-via-else-not-all+then-not-serves_all}
 use Rattle.om_addr.proofs.far.split_address.Goals as goal
@@ -14,6 +15,7 @@ use Rattle.om_addr.proofs.far.split_address.Goals as goal
 pub returns-then-live : goal.returns-then-live
 returns-then-live c = record {
   passed = λ l masks said dead. none l masks c.args.g.now;
+  ends = same_ends c.args.g.now;
   nothing = λ l said e.
       elim c.then-live.branch [
         | then-live-via-then-live w ↦ none_live l c.args.g.now c.requires.program.may_go_on.graph.graph c.args.load.now c.requires.load c.args.at.now said c.args.live w.if-live.true
@@ -27,6 +29,7 @@ returns-then-live c = record {
 pub returns-in_default : goal.returns-in_default
 returns-in_default c = record {
   passed = λ l masks said dead. none l masks c.args.g.now;
+  ends = same_ends c.args.g.now;
   nothing = λ l said e.
       none_found l c.args.g.now c.is_graph.ensures c.args.load.now c.requires.load c.args.at.now said c.args.live
       (small_register c.num.result c.args.load.now.ra c.num.ensures.value c.num.ensures.range c.if-num-eq31.false) None c.in_default.ensures refl;
@@ -35,6 +38,7 @@ returns-in_default c = record {
 pub returns-then-not-all : goal.returns-then-not-all
 returns-then-not-all c = record {
   passed = λ l masks said dead. none l masks c.args.g.now;
+  ends = same_ends c.args.g.now;
   nothing = λ l said e.
       elim c.then-not-all.branch [
         | then-not-all-via-then-not-all w ↦
@@ -54,5 +58,8 @@ returns c = record {
       (small_register c.num.result c.args.load.now.ra c.num.ensures.value c.num.ensures.range c.if-num-eq31.false) c.args.at.now said (dead c.if-live.false) c.in-Some.all c.in-Some.ensures (not_not c.in-Some.all.any c.if-not-all.false)
       (half_is c.args.at.now c.in-Some.all c.in-Some.ensures.short true (sym c.if-not-serves_all.ensures))
       (edit_is c.args.load.now c.in-Some.all c.in-Some.ensures.short c.args.g.now c.make_far.new.g c.make_far.ensures));
+  ends =
+      far_ends c.args.g.now c.make_far.new.g c.is_graph.ensures c.args.load.now c.in-Some.all.least c.requires.pointer
+      (edit_is c.args.load.now c.in-Some.all c.in-Some.ensures.short c.args.g.now c.make_far.new.g c.make_far.ensures);
   nothing = λ l said e. absurd (true≢false e);
 }
