@@ -9,16 +9,18 @@ use Rattle.om_prog.specs.View.{ProgramView, item_at, text_of}
 use Rattle.om_prog.specs.Script.{program_script, program_fetch}
 use Rattle.om_prog.specs.Valid.{IsProgram, slots_onto}
 use Rattle.om_graph.specs.View.{GraphView, numbers_from}
+use Rattle.om_graph.specs.Fits.{OpsFit}
 use Rattle.om_graph.specs.Index.{index_of}
 use Rattle.om_graph.specs.Kept.{KeptInBlocks}
 use Rattle.om_graph.specs.LeftIn.{Keeps, left_in}
 use Rattle.om_graph.specs.Lifted.{IsLifted}
 use Rattle.om_graph.specs.OfProgram.{IsGraphOf}
 use Rattle.om_graph.specs.Run.{graph_script}
+use Rattle.om_graph.specs.Stands.{BasesStand}
 use Rattle.om_image.specs.declared.image.Image.{Image}
 use Rattle.om_image.specs.declared.map.MapWord.{MapWord}
 use Rattle.om_image.specs.Valid.{IsValidImage}
-use Rattle.om_layout.specs.Layout.{LayoutView, TableAt, position_of}
+use Rattle.om_layout.specs.Layout.{LayoutView, TableAt, position_of, gp_of, address_of}
 use Rattle.om_layout.specs.Order.{IsPlaceOf, IsLayoutOf}
 use Rattle.om_lockstep.specs.Lockstep.{AreBytes}
 use Rattle.om_encode.specs.Halves.{addresses_of}
@@ -70,6 +72,10 @@ pub record IsImageAt (at : Level) (p : ProgramView) (i : Image) : Type 0 where
   pub of : IsGraphOf p graph
   pub kept : KeptInBlocks graph
   pub laid : IsLayoutOf p graph layout
+  -- each op that stands for an address fits its instruction in the layout, and the base of a use over a global pointer stands in
+  -- its register from the setting on
+  pub fits : OpsFit p (gp_of layout) (address_of layout) graph
+  pub bases : BasesStand p graph
   pub true_map : IsMapIn p graph layout i
   pub valid : IsValidImage i
   pub finished : Finished at p lifted graph layout i

@@ -17,9 +17,10 @@ use Rattle.om_graph.proofs.Itself.{all_ordered, keeps_itself}
 use Rattle.om_graph.proofs.LiftedKept.{lifted_whole}
 use Rattle.om_graph.proofs.LiftedOf.{lifted_of}
 use Rattle.om_graph.proofs.Places.{placed}
-use Rattle.om_layout.specs.Layout.{LayoutView, position_of}
+use Rattle.om_layout.specs.Layout.{LayoutView, position_of, gp_of, address_of}
 use Rattle.om_layout.specs.Order.{IsPlaceOf, IsLayoutOf}
 use Rattle.om_layout.proofs.Natural.{lays_out}
+use Rattle.om_passes.proofs.Starts.{lifted_stands}
 use Rattle.om_image.specs.declared.image.Image.{Image}
 use Rattle.om_image.specs.declared.map.MapWord.{MapWord}
 use Rattle.om_image.specs.Valid.{IsValidImage}
@@ -31,7 +32,7 @@ use Rattle.om_encode.proofs.Sentences.{lockstep_gives_headline}
 use Rattle.om_counted.specs.Levels.{counts_of, plain_word, IsPlain, IsImageAt}
 use Rattle.om_counted.proofs.Images.{images_run}
 use Rattle.om_link.specs.Laws.{RunsInStep, StepsAt, LinkedImagesRun}
-use Rattle.om_link.proofs.Lifted.{has_word, each_kept}
+use Rattle.om_link.proofs.Lifted.{has_word, each_kept, ops_fit}
 use Rattle.om_link.proofs.OwnNumbers.{own_number, place_is}
 use Rattle.om_link.proofs.OwnSlots.{own_slots}
 use Rattle.om_link.proofs.Reach.{stands_in}
@@ -71,6 +72,8 @@ module _ (p : ProgramView) (g : GraphView) (l : LayoutView) (i : Image) (prog : 
     of = lifted_of p prog g lifted;
     kept = whole.kept;
     laid = laid;
+    fits = ops_fit p prog g lifted (gp_of l) (address_of l);
+    bases = lifted_stands.bases p g prog lifted;
     true_map = true_map;
     valid = valid;
     finished = is_plain laid true_map;

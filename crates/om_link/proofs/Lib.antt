@@ -2,9 +2,12 @@ pub mod Reach
 pub mod OwnNumbers
 pub mod OwnSlots
 pub mod Lifted
+pub mod HasRegions
+pub mod Grouped
 pub mod Images
 pub mod SourceWords
 pub mod OneLayout
 pub mod Numbered
 pub mod OneImage
 pub mod Answered
+pub mod Turns

@@ -1,3 +1,5 @@
 pub mod Plain
+pub mod Rounds
+pub mod Turns
 pub mod Links
 pub mod Laws

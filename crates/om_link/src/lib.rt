@@ -3,6 +3,7 @@
 
 mod laws;
 mod linking;
+mod rounds;
 
 pub use laws::{linked_images_run, one_plain_image};
 pub use linking::{LinkErr, Linked, link};

@@ -6,8 +6,10 @@ ghost use Rattle.om_counted.specs.Levels.{IsImageAt};
 ghost use Rattle.om_link.specs.Plain.{BranchesReach};
 ghost use Rattle.om_link.specs.Links.{Links, link_err};
 
+use crate::rounds::rounds;
 use om_alpha::Level;
 use om_encode::encode_image;
+use om_gat::group;
 use om_image::{Image, write_image};
 use om_io::{Bytes, NoMemory};
 use om_layout::lay;
@@ -46,7 +48,7 @@ fn unresolved(cause: ResolveErr) -> LinkErr
 }
 
 // The image of a program as it is.
-fn image_of(alloc: Global, program: &Program) -> Result<Image, NoMemory>
+fn plain_image(alloc: Global, program: &Program) -> Result<Image, NoMemory>
     requires program { IsProgram program.now }
     requires limits { IsWithinLimits program.now }
     requires reach { BranchesReach program.now }
@@ -58,39 +60,54 @@ fn image_of(alloc: Global, program: &Program) -> Result<Image, NoMemory>
     Ok(image)
 }
 
-// Links objects without rewriting.
-fn link_plain(alloc: Global, objects: &[Object]) -> Result<Linked, LinkErr>
-    requires { length objects.now < 2 ^ 32 }
-    ensures { Links Level.Plain objects.now result }
+// The image of a program in which nothing is left to rewrite.
+fn full_image(alloc: Global, program: &Program) -> Result<Image, NoMemory>
+    requires program { IsProgram program.now }
+    requires limits { IsWithinLimits program.now }
+    requires reach { BranchesReach program.now }
+    ensures { IfOk result (λ i. IsImageAt Level.Full program.now i) }
+{
+    let mut graph = lift_program(alloc, program)?;
+    group(alloc, &mut graph, Level::Full)?;
+    let layout = rounds(alloc, &mut graph, program)?;
+    let image = encode_image(alloc, &graph, program, &layout)?;
+    Ok(image)
+}
+
+// The image of a program at a level.
+fn image_of(alloc: Global, program: &Program, level: Level) -> Result<Image, NoMemory>
+    requires program { IsProgram program.now }
+    requires limits { IsWithinLimits program.now }
+    requires reach { BranchesReach program.now }
+    ensures { IfOk result (λ i. IsImageAt level program.now i) }
+{
+    match level {
+        Level::Plain => plain_image(alloc, program),
+        Level::Full => full_image(alloc, program),
+    }
+}
+
+/// Links objects, which are numbered from 0 in their order, to one image. At the plain level each word stays as it was,
+/// and each object has an address table of its own. At the full level objects share tables as far as these have room, and
+/// the program is rewritten until no rule applies any more (see `IsThorough` of om_thorough).
+///
+/// The image runs as the objects' program does (see `linked_images_run`). `Resolve` comes exactly where the objects are no
+/// program, with the first cause, as `resolve` answers it. `NoMemory` comes where memory runs out, and can take the place
+/// of every other answer. At the plain level a link takes time near-linear in the symbols, relocations, words and fields.
+pub fn link(alloc: Global, objects: &[Object], level: Level) -> Result<Linked, LinkErr>
+    requires objects { length objects.now < 2 ^ 32 }
+    ensures { Links level objects.now result }
 {
     let program = match resolve(alloc, objects) {
         Ok(program) => program,
         Err(cause) => return Err(unresolved(cause)),
     };
-    let image = match image_of(alloc, &program) {
+    let image = match image_of(alloc, &program, level) {
         Ok(image) => image,
         Err(NoMemory) => return Err(LinkErr::NoMemory),
     };
     match write_image(alloc, &image) {
         Ok(bytes) => Ok(Linked { image, bytes }),
         Err(NoMemory) => Err(LinkErr::NoMemory),
-    }
-}
-
-/// Links objects, which are numbered from 0 in their order, to one image. So far at the plain level alone, which keeps
-/// each word as it was and gives each object an address table of its own.
-///
-/// The image runs as the objects' program does (see `linked_images_run`). `Resolve` comes exactly where the objects are no
-/// program, with the first cause, as `resolve` answers it. `NoMemory` comes where memory runs out, and can take the place
-/// of every other answer. Takes time near-linear in the symbols, relocations, words and fields.
-pub fn link(alloc: Global, objects: &[Object], level: Level) -> Result<Linked, LinkErr>
-    requires objects { length objects.now < 2 ^ 32 }
-    requires level { level ≡ Level.Plain }
-    ensures { Links level objects.now result }
-{
-    match level {
-        Level::Plain => link_plain(alloc, objects),
-        // No caller asks for another level.
-        Level::Full => unreachable!(),
     }
 }

@@ -4,7 +4,7 @@ use Rattle.om_layout.specs.Limits.{IsWithinLimits}
 use Rattle.om_link.specs.Plain.{BranchesReach}
 use Rattle.om_link.proofs.Answered.{within_limits}
 use Rattle.om_link.proofs.Reach.{branches_reach}
-use Rattle.om_link.proofs.linking.link_plain.Goals as goal
+use Rattle.om_link.proofs.linking.link.Goals as goal
 
 pub image_of-requires-clause-limits : goal.image_of-requires-clause-limits
 image_of-requires-clause-limits c = subst IsWithinLimits (sym c.in-Ok.ensures.0) (within_limits c.args.objects.now c.in-Ok.ensures.1)

@@ -5,7 +5,7 @@ use Rattle.om_layout.proofs.Natural.{lays_out}
 use Rattle.om_encode.proofs.Reached.{reached_branches_fit}
 use Rattle.om_link.proofs.Lifted.{ops_fit, branches_in_reach}
 use Rattle.om_link.proofs.Images.{plain_image}
-use Rattle.om_link.proofs.linking.image_of.Goals as goal
+use Rattle.om_link.proofs.linking.plain_image.Goals as goal
 
 pub encode_image-requires-clause-layout : goal.encode_image-requires-clause-layout
 encode_image-requires-clause-layout c =
