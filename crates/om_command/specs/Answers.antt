@@ -1,6 +1,5 @@
 -- What each sentence is answered with.
 use Rattle.std.specs.Prelude.{◌⊎◌, ℕ, List, Option, Some, None, codes}
-use Rattle.om_alpha.specs.declared.op.Level.TheVariants.{Plain}
 use Rattle.om_words.specs.Meaning.{Meaning, Link, Exec, Run, Sim, Listing, meaning}
 use Rattle.om_words.specs.Sentences.{wrong_place}
 use Rattle.om_command.specs.ExecAnswers.{ExecAnswers}
@@ -16,13 +15,13 @@ pub record OnlySays (code : ℕ) (line : List ℕ) (old new : World) (status : �
   pub said : IsSaid code line status old.err new.err
   pub untouched : IsUntouched old new
 
--- a command, or a level of it, that is not built yet
+-- a command that is not built yet
 abbrev pub NotYet : World → World → ℕ → Type 0
 NotYet old new status = OnlySays 2 (codes "not yet\n") old new status
 
 abbrev pub MeaningAnswers : Meaning → World → World → ℕ → Type 0
-MeaningAnswers (Link Plain out files) old new status = LinkAnswers Plain out files old new status
-MeaningAnswers (Exec Plain steps files) old new status = ExecAnswers Plain steps files old new status
+MeaningAnswers (Link at out files) old new status = LinkAnswers at out files old new status
+MeaningAnswers (Exec at steps files) old new status = ExecAnswers at steps files old new status
 MeaningAnswers (Run steps image) old new status = RunAnswers steps image old new status
 MeaningAnswers (Sim steps files) old new status = SimAnswers steps files old new status
 MeaningAnswers (Listing image) old new status = ListAnswers image old new status

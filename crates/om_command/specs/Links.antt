@@ -14,9 +14,10 @@ use Rattle.om_command.specs.Loading.{AllLoaded}
 use Rattle.om_command.specs.World.{Files}
 
 -- An image of objects at a level. Its map is true of their program, so every relocated field reaches its target; at the plain
--- level all words are kept and each object has a table of its own. And for every input its run goes with that of the program:
--- while the program shows no address, both have written the same after counted steps, have taken the same of the input, and end
--- in the same way; at the plain level they do so step by step
+-- level all words are kept and each object has a table of its own, and at the full one nothing is left to rewrite. And for every
+-- input its run goes with that of the program: while the program shows no address, both have written the same after counted
+-- steps, have taken the same of the input, and end in the same way. At the plain level each step of the program is counted, and
+-- at the full one at least one of any W + 1, where the program has W words
 pub record IsImageOf (at : Level) (objects : List Parts) (i : Image) : Type 0 where
   pub link : IsLinkAt at objects i
   pub runs : (input : List ℕ) → AreBytes input → RunsAsProgram at (program_of objects) link.image.graph link.image.layout i input

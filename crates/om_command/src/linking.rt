@@ -15,13 +15,14 @@ use om_link::{LinkErr, Linked, link};
 use om_resolve::ResolveErr;
 use std::alloc::Global;
 
-/// Loads the files in the order in which the words name them, and links their objects with all of their words.
+/// Loads the files in the order in which the words name them, and links their objects at a level.
 pub(crate) fn load_link<S: Store>(
     alloc: Global,
+    level: Level,
     names: &[String],
     store: &mut S,
 ) -> Result<Linked, NoProgram>
-    ensures holds { IfOk result (λ l. HoldsLink Level.Plain (texts names.now)
+    ensures holds { IfOk result (λ l. HoldsLink level (texts names.now)
         (files_of (S.tells store.old) (S.file store.old) (S.failed_loads store.old) (S.failed_saves store.old)
         (S.last_failed store.old) (S.loads_asked store.old) (S.saves_asked store.old))
         (files_of (S.tells store.new) (S.file store.new) (S.failed_loads store.new) (S.failed_saves store.new)
@@ -39,7 +40,7 @@ pub(crate) fn load_link<S: Store>(
     if objects.as_slice().len() > MOST_OBJECTS {
         return Err(NoProgram::Objects(ResolveErr::NoMemory));
     }
-    match link(alloc, objects.as_slice(), Level::Plain) {
+    match link(alloc, objects.as_slice(), level) {
         Ok(linked) => Ok(linked),
         Err(LinkErr::Resolve(cause)) => Err(NoProgram::Objects(cause)),
         Err(LinkErr::NoMemory) => Err(NoProgram::Objects(ResolveErr::NoMemory)),
@@ -49,22 +50,23 @@ pub(crate) fn load_link<S: Store>(
 // Links files, and saves the image under `out`.
 fn save_link<S: Store>(
     alloc: Global,
+    level: Level,
     out: &str,
     names: &[String],
     store: &mut S,
 ) -> Result<(), LinkStop>
-    ensures done { OnOk result (HasLinked Level.Plain out.now (texts names.now)
+    ensures done { OnOk result (HasLinked level out.now (texts names.now)
         (files_of (S.tells store.old) (S.file store.old) (S.failed_loads store.old) (S.failed_saves store.old)
         (S.last_failed store.old) (S.loads_asked store.old) (S.saves_asked store.old))
         (files_of (S.tells store.new) (S.file store.new) (S.failed_loads store.new) (S.failed_saves store.new)
         (S.last_failed store.new) (S.loads_asked store.new) (S.saves_asked store.new))) }
-    ensures stopped { IfErr result (λ stop. IsLinkCause Level.Plain stop out.now (texts names.now)
+    ensures stopped { IfErr result (λ stop. IsLinkCause level stop out.now (texts names.now)
         (files_of (S.tells store.old) (S.file store.old) (S.failed_loads store.old) (S.failed_saves store.old)
         (S.last_failed store.old) (S.loads_asked store.old) (S.saves_asked store.old))
         (files_of (S.tells store.new) (S.file store.new) (S.failed_loads store.new) (S.failed_saves store.new)
         (S.last_failed store.new) (S.loads_asked store.new) (S.saves_asked store.new))) }
 {
-    let linked = match load_link(alloc, names, store) {
+    let linked = match load_link(alloc, level, names, store) {
         Ok(linked) => linked,
         Err(cause) => return Err(LinkStop::NoProgram(cause)),
     };
@@ -74,16 +76,17 @@ fn save_link<S: Store>(
     }
 }
 
-/// Links files without rewriting, saves the image under `out`, and answers the status; what is wrong is said on the error
+/// Links files at a level, saves the image under `out`, and answers the status; what is wrong is said on the error
 /// stream. Asks for one load of each file, and for one save where there is an image.
 pub(crate) fn link_files<S: Store, E: Sink>(
     alloc: Global,
+    level: Level,
     out: &str,
     names: &[String],
     store: &mut S,
     err: &mut E,
 ) -> u8
-    ensures { (input sink : Stream) → LinkAnswers Level.Plain out.now (texts names.now)
+    ensures { (input sink : Stream) → LinkAnswers level out.now (texts names.now)
         (world (files_of (S.tells store.old) (S.file store.old) (S.failed_loads store.old) (S.failed_saves store.old)
         (S.last_failed store.old) (S.loads_asked store.old) (S.saves_asked store.old)) input sink
         (stream (E.written err.old) (E.faults err.old)))
@@ -91,7 +94,7 @@ pub(crate) fn link_files<S: Store, E: Sink>(
         (S.last_failed store.new) (S.loads_asked store.new) (S.saves_asked store.new)) input sink
         (stream (E.written err.new) (E.faults err.new))) result }
 {
-    match save_link(alloc, out, names, store) {
+    match save_link(alloc, level, out, names, store) {
         Ok(()) => 0,
         Err(stop) => report_link(err, names, &stop),
     }

@@ -1,9 +1,8 @@
 // Doing what a sentence asks for.
 ghost use Rattle.std.specs.Prelude.{◌≡◌};
-ghost use Rattle.om_words.specs.Meaning.{Meaning, told};
-ghost use Rattle.om_words.specs.Sentences.{texts};
+ghost use Rattle.om_words.specs.Meaning.{told};
 ghost use Rattle.om_command.specs.Answers.{MeaningAnswers};
-ghost use Rattle.om_command.specs.World.{Stream, files_of, stream, world};
+ghost use Rattle.om_command.specs.World.{files_of, stream, world};
 
 use crate::executing::exec;
 use crate::linking::link_files;
@@ -11,58 +10,9 @@ use crate::listing::list_image;
 use crate::report::report_not_yet;
 use crate::running::run;
 use crate::simulating::sim;
-use om_alpha::Level;
 use om_io::{Sink, Source, Store};
 use om_words::Command;
 use std::alloc::Global;
-
-// Links files, so far at the plain level.
-fn link_at<S: Store, E: Sink>(
-    alloc: Global,
-    level: Level,
-    out: &str,
-    names: &[String],
-    store: &mut S,
-    err: &mut E,
-) -> u8
-    ensures { (input sink : Stream) → MeaningAnswers (Meaning.Link level out.now (texts names.now))
-        (world (files_of (S.tells store.old) (S.file store.old) (S.failed_loads store.old) (S.failed_saves store.old)
-        (S.last_failed store.old) (S.loads_asked store.old) (S.saves_asked store.old)) input sink
-        (stream (E.written err.old) (E.faults err.old)))
-        (world (files_of (S.tells store.new) (S.file store.new) (S.failed_loads store.new) (S.failed_saves store.new)
-        (S.last_failed store.new) (S.loads_asked store.new) (S.saves_asked store.new)) input sink
-        (stream (E.written err.new) (E.faults err.new))) result }
-{
-    match level {
-        Level::Plain => link_files(alloc, out, names, store, err),
-        Level::Full => report_not_yet(err),
-    }
-}
-
-// Links and runs files, so far at the plain level.
-fn exec_at<S: Store, I: Source, O: Sink, E: Sink>(
-    alloc: Global,
-    level: Level,
-    steps: u64,
-    names: &[String],
-    store: &mut S,
-    input: &mut I,
-    out: &mut O,
-    err: &mut E,
-) -> u8
-    ensures { MeaningAnswers (Meaning.Exec level steps (texts names.now))
-        (world (files_of (S.tells store.old) (S.file store.old) (S.failed_loads store.old) (S.failed_saves store.old)
-        (S.last_failed store.old) (S.loads_asked store.old) (S.saves_asked store.old)) (stream (I.left input.old) (I.faults input.old))
-        (stream (O.written out.old) (O.faults out.old)) (stream (E.written err.old) (E.faults err.old)))
-        (world (files_of (S.tells store.new) (S.file store.new) (S.failed_loads store.new) (S.failed_saves store.new)
-        (S.last_failed store.new) (S.loads_asked store.new) (S.saves_asked store.new)) (stream (I.left input.new) (I.faults input.new))
-        (stream (O.written out.new) (O.faults out.new)) (stream (E.written err.new) (E.faults err.new))) result }
-{
-    match level {
-        Level::Plain => exec(alloc, steps, names, store, input, out, err),
-        Level::Full => report_not_yet(err),
-    }
-}
 
 /// Does what a command asks for, and answers the status.
 pub(crate) fn obey<S: Store, I: Source, O: Sink, E: Sink>(
@@ -86,12 +36,12 @@ pub(crate) fn obey<S: Store, I: Source, O: Sink, E: Sink>(
             level,
             out: name,
             files,
-        } => link_at(alloc, *level, name.as_str(), files.as_slice(), store, err),
+        } => link_files(alloc, *level, name.as_str(), files.as_slice(), store, err),
         Command::Exec {
             level,
             steps,
             files,
-        } => exec_at(
+        } => exec(
             alloc,
             *level,
             *steps,

@@ -11,12 +11,13 @@ use std::alloc::Global;
 
 /// Does what the words say, and answers the status of the command.
 ///
-/// The sentences are those of `om_words::read_words`; `link -O0 -o OUT FILE ..`, `exec -O0 [-n N] FILE ..`,
+/// The sentences are those of `om_words::read_words`; `link [-O0] -o OUT FILE ..`, `exec [-O0] [-n N] FILE ..`,
 /// `run [-n N] IMAGE`, `sim [-n N] FILE ..` and `list IMAGE` are done so far. `link` links object files and saves under OUT an
 /// image that runs as their program; `exec` links them and runs the image, `run` runs an image from a file, and `sim` the
 /// program of object files without giving it addresses, with the streams as descriptors 0, 1 and 2; `list` puts on `out` a line
-/// for each word of an image that is not as it was before the link, and totals. A command or a level that is not built yet is
-/// answered with 2 and `not yet`.
+/// for each word of an image that is not as it was before the link, and totals. With `-O0` a link rewrites nothing, and its
+/// image does step for step what the program does; without, it rewrites until no rule of rewriting applies, and its image may
+/// need fewer steps. A command that is not built yet is answered with 2 and `not yet`.
 ///
 /// A status other than 0 is told by one line on `err`, or a front of it, with status 7, where that cannot be put: 1 a run exited
 /// with another status than 0, 2 the words are no sentence, or what they ask for is not built yet, 3 a file is not there or is

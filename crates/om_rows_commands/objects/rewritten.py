@@ -62,6 +62,13 @@ ADDRESSES = {
         "lit r1,.bss\nlit r2,.bss+8\nlit r3,.bss+65512\nstq r1,0(r30)\nstq r2,8(r30)\nstq r3,16(r30)\nsubq r3,r1,r16\n" + EXIT,
         [(6, 65536, b"")],
     ),
+    # Each round brings two more targets in reach.
+    "NEAR_EACH_ROUND": Object(
+        "lit r1,.bss\nlit r2,.bss+8\nlit r3,.bss+65496\nlit r4,.bss+65500\nlit r5,.bss+65512\nlit r6,.bss+65516\n"
+        + "stq r1,0(r30)\nstq r2,8(r30)\nstq r3,16(r30)\nstq r4,24(r30)\nstq r5,32(r30)\nstq r6,40(r30)\nsubq r6,r1,r16\n"
+        + EXIT,
+        [(6, 65536, b"")],
+    ),
     "USED_NEAR_LATER": Object(
         "lit r1,.bss\nlit r2,.bss+8\nlit r3,.bss+65488\nstq r1,0(r30)\nstq r2,8(r30)\nlda r5,6(r31)\nstq r5,16(r3)\nldq r4,16(r3)\n"
         + ends("r4"),

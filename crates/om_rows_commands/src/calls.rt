@@ -8,9 +8,7 @@ use om_rows::{Bad, text_of};
 use std::alloc::{AllocError, Global};
 use std::rt::Files;
 
-// Room for what the calls put on `out` and on `err`.
-const OUT_ROOM: u64 = 8192;
-
+// Room for what a call puts on `err`.
 const ERR_ROOM: u64 = 256;
 
 type RowStore = Counted<MemStore>;
@@ -76,7 +74,7 @@ fn called(
     let bytes = Vec::from_slice(alloc, outside.input.as_bytes())?;
     let fails = vec![in alloc; outside.fails.input; 1]?;
     let mut input = MemSource::new(bytes, fails);
-    let mut out = sink(alloc, OUT_ROOM, outside.fails.out)?;
+    let mut out = sink(alloc, outside.space, outside.fails.out)?;
     let mut err = sink(alloc, ERR_ROOM, outside.fails.err)?;
     let status = om(alloc, &words, store, &mut input, &mut out, &mut err);
     let written = shown(alloc, outside.shown, out.bytes())?;

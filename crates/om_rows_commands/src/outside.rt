@@ -8,8 +8,10 @@ use std::rt::Files;
 // The number of a call that is never made.
 const NEVER: u64 = u64::MAX;
 
-// The bytes of saves for which there is room where a row says nothing of it.
+// The bytes of saves, and those on `out`, for which there is room where a row says nothing of it.
 const ROOM: u64 = 65_536;
+
+const SPACE: u64 = 8192;
 
 /// The calls that fail, by their numbers from 0 on: of the store, loads and saves together, and of each stream.
 #[derive(Clone, Copy)]
@@ -34,6 +36,7 @@ pub struct Outside {
     pub files: Vec<(String, Bytes)>,
     pub input: String,
     pub room: u64,
+    pub space: u64,
     pub fails: Fails,
     pub shown: Shown,
     /// Whether the answer says how many loads and saves were asked for.
@@ -72,6 +75,7 @@ impl Outside {
             files: Vec::new(alloc),
             input: String::new(alloc),
             room: ROOM,
+            space: SPACE,
             fails: Fails {
                 store: NEVER,
                 input: NEVER,
@@ -89,6 +93,7 @@ impl Outside {
         match key {
             "input" => self.input = String::from_str(alloc, value)?,
             "room" => self.room = number_in(value)?,
+            "space" => self.space = number_in(value)?,
             "store" => self.fails.store = number_in(value)?,
             "reads" => self.fails.input = number_in(value)?,
             "out" => self.fails.out = number_in(value)?,
@@ -104,8 +109,9 @@ impl Outside {
 
     /// Takes one part of a row: `NAME: FILE`, as `files::file_of` reads it, or a setting.
     ///
-    /// The settings are `input TEXT`, `room COUNT`, the numbers of calls that fail (`store N`, `reads N`, `out N`, `err N`), and
-    /// what is shown: `last` and `count` of what is on `out`, `calls` of the store, `part FROM TO` of what was saved.
+    /// The settings are `input TEXT`, `room COUNT` for saves, `space COUNT` on `out`, the numbers of calls that fail (`store N`,
+    /// `reads N`, `out N`, `err N`), and what is shown: `last` and `count` of what is on `out`, `calls` of the store,
+    /// `part FROM TO` of what was saved.
     pub fn take<R: Files + Drop>(
         &mut self,
         alloc: Global,
