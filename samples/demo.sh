@@ -1,48 +1,53 @@
 #!/bin/sh
-# Builds om, and links, runs and lists a program that gcc and the GNU assembler made for Alpha, saying what it does. Needs the
-# kit's `rt` and Debian's base system alone.
+# Links, runs and lists a program that gcc and the GNU assembler made for Alpha, without rewriting and at the usual level, says what
+# it does, and shows what the link saved. Proves and builds om first, unless OM names it. Needs the kit's `rt`, Python 3 and
+# Debian's base system.
 set -eu
-top=$(cd "$(dirname "$0")/.." && pwd)
-work=$(mktemp -d)
-trap 'rm -rf "$work"' EXIT
+if [ -z "${OM:-}" ]; then
+    echo "0. Proving and building om. The first time every function of the program is proved, which takes half an"
+    echo "   hour and more on four processors; after that a proof is made again only for what has changed."
+fi
+. "$(dirname "$0")/build_om.sh"
 
-echo "1. Proving and building om. The first time every function of the program is proved, which takes half an"
-echo "   hour on four processors; after that a proof is made again only for what has changed."
-cd "$top/crates/om_cli"
-rt run -- 2>&1 | tee "$work/log" | sed 's/^/   | /' || true
-grep -q '^usage 1$' "$work/log" || { echo "   om could not be proved and built" >&2; exit 1; }
-
-om=$top/crates/om_cli/out/om_cli
-cp "$top"/crates/om_cli/data/*.o "$work/"
-cd "$work"
+cp "$top"/crates/om_cli/data/*.o .
 files="start.o even.o main.o odd.o work.o io.o str.o sys.o div.o"
 
 echo
-echo "2. Linking nine objects (crates/om_cli/data) of a C program of recursive functions:"
-echo "   om link -O0 -o recur $files"
-"$om" link -O0 -o recur $files
-echo "   status $?, $(cat $files | wc -c) bytes of objects became $(wc -c <recur) bytes of image"
+echo "1. Linking nine objects (crates/om_cli/data) of a C program of recursive functions:"
+echo "   om link -o recur $files"
+"$om" link -o recur $files
+echo "   status $?"
 
 echo
-echo "3. Running the image, which exits with 62:"
+echo "2. Running the image, which exits with 62:"
 echo "   om run recur"
 "$om" run recur || echo "   status $?"
 
 echo
-echo "4. The first lines of its listing: object, offset, old word, new word and instruction of each word that is not as it"
-echo "   was; and its last line, the totals:"
+echo "3. The same objects linked word for word, and that image run:"
+echo "   om link -O0 -o plain $files; om run plain"
+"$om" link -O0 -o plain $files
+"$om" run plain || echo "   status $?"
+
+echo
+echo "4. What became of addresses: lines of the listing of the first image. Each has object, offset, old word, new word or"
+echo "   'gone', and the instruction; the last line has the totals:"
 echo "   om list recur"
 "$om" list recur >lines
-head -n 8 lines
+head -n 12 lines
 echo "   .."
 tail -n 1 lines
 
 echo
-echo "5. The same program without addresses, on a machine on which no pointer is a number:"
+echo "5. What the link saved:"
+python3 -B "$top/samples/saved.py" "$om" $files
+
+echo
+echo "6. The same program without addresses, on a machine on which no pointer is a number:"
 echo "   om sim $files"
 "$om" sim $files || echo "   status $?"
 
 echo
-echo "6. What om says of objects that are no program:"
-echo "   om link -O0 -o nothing start.o main.o"
-"$om" link -O0 -o nothing start.o main.o || echo "   status $?"
+echo "7. What om says of objects that are no program:"
+echo "   om link -o nothing start.o main.o"
+"$om" link -o nothing start.o main.o || echo "   status $?"

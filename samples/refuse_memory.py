@@ -1,10 +1,11 @@
 #!/usr/bin/env python3
 """Refuses each request of om for memory in turn: refuse_memory.py [OM]
 
-Links and runs at the plain level three programs of the rows: three words that exit with 7, two objects that print a line, and two
+Links and runs at both levels three programs of the rows: three words that exit with 7, two objects that print a line, and two
 objects with a call between them. Each call is made as often as it asks for memory, and once more; each time another request is
 refused, by functions that stand in front of the C library's. A call has to answer as it does with ample memory, or with status
-8 and `no memory`; and a link that is refused must not have saved anything. Needs the program that the gate built, and gcc.
+8 and `no memory`; and a link that is refused must not have saved anything. Needs gcc and om: the program named, or that which
+the environment's OM names, or the one that the gate built.
 """
 import os
 import subprocess
@@ -51,6 +52,7 @@ __attribute__((destructor)) static void tell(void) {
     if (out) { fprintf(out, "%ld", asked); fclose(out); }
 }
 """
+NO_MEMORY = (8, b"", b"no memory\n", None)
 PROGRAMS = [["EXITS_SEVEN"], ["PRINTS", "PUTS"], ["CALLS_ACROSS", "SETS_GP"]]
 
 
@@ -68,8 +70,26 @@ def call(om, folder, words, refused=None):
     return (run.returncode, run.stdout, run.stderr, image), int(open(asked).read())
 
 
+def refuse_each(om, folder, words):
+    """How many of the refused calls answer otherwise than they may."""
+    ample, asked = call(om, folder, words)
+    wrong = wanting = 0
+    if asked == 0:
+        wrong = 1
+        print("no request of this program was seen: it does not ask the C library")
+    for k in range(asked + 1):
+        got, _ = call(om, folder, words, k)
+        wanting += got == NO_MEMORY
+        if got not in (ample, NO_MEMORY):
+            wrong += 1
+            print("request %d of %s: %r" % (k, " ".join(words), got))
+    print("%s: status %d, %d requests, %d times no memory" % (" ".join(words), ample[0], asked, wanting))
+    return wrong
+
+
 def main():
-    om = os.path.abspath(sys.argv[1] if len(sys.argv) > 1 else os.path.join(TOP, "crates/om_cli/out/om_cli"))
+    built = os.environ.get("OM") or os.path.join(TOP, "crates/om_cli/out/om_cli")
+    om = os.path.abspath(sys.argv[1] if len(sys.argv) > 1 else built)
     wrong = 0
     with tempfile.TemporaryDirectory() as folder:
         with open(os.path.join(folder, "shim.c"), "w", encoding="ascii") as out:
@@ -81,16 +101,9 @@ def main():
                 with open(os.path.join(folder, file), "wb") as out:
                     out.write(FILES[name].bytes())
                 names.append(file)
-            for words in (["link", "-O0", "-o", "p", *names], ["exec", "-O0", *names]):
-                ample, asked = call(om, folder, words)
-                wanting = 0
-                for k in range(asked + 1):
-                    got, _ = call(om, folder, words, k)
-                    wanting += got == (8, b"", b"no memory\n", None)
-                    if got not in (ample, (8, b"", b"no memory\n", None)):
-                        wrong += 1
-                        print("request %d of %s: %r" % (k, " ".join(words), got))
-                print("%s: status %d, %d requests, %d times no memory" % (" ".join(words), ample[0], asked, wanting))
+            for level in ["-O0"], []:
+                wrong += refuse_each(om, folder, ["link", *level, "-o", "p", *names])
+                wrong += refuse_each(om, folder, ["exec", *level, *names])
     print("wrong %d" % wrong)
     sys.exit(1 if wrong else 0)
 
