@@ -1,7 +1,7 @@
 #!/bin/sh
 # Shows how fast the solvers of facts, masks and uses are over large graphs, and how much memory they take beside the
-# graph. Builds om_solvers in a copy of the repository, which is proved first. Needs the kit's `rt`, GNU time and 6 GB of
-# room.
+# graph: time and greatest memory of a process, without those of one that makes the graph alone. Builds om_solvers in a
+# copy of the repository, which is proved first. Needs the kit's `rt`, GNU time and 6 GB of room.
 set -eu
 top=$(cd "$(dirname "$0")/.." && pwd)
 work=$(mktemp -d)
@@ -21,34 +21,37 @@ git -C "$work" init -q 2>/dev/null || true
 rt run >"$work/log" 2>&1 </dev/null || true
 test -x out/om_solvers || { tail -5 "$work/log" >&2; exit 1; }
 
-# Seconds and KB of one run.
+# Nanoseconds and KB of one run.
 run() {
-    echo "$1 $2 $3" | /usr/bin/time -f '%e %M' -o "$work/cost" ./out/om_solvers >"$work/answer"
+    echo "$1 $2 $3" >"$work/line"
+    began=$(date +%s%N)
+    /usr/bin/time -f '%M' -o "$work/room" ./out/om_solvers <"$work/line" >"$work/answer"
+    ended=$(date +%s%N)
     if ! grep -q ': [0-9a-f]\{16\}$' "$work/answer"; then
         cat "$work/answer" >&2
         exit 1
     fi
-    cat "$work/cost"
+    echo "$((ended - began)) $(cat "$work/room")"
 }
 
-# The least seconds and KB of three runs.
+# The least nanoseconds and KB of three runs.
 least() {
     for turn in 1 2 3; do
         run "$@"
     done >"$work/turns"
-    awk 'NR == 1 || $1 < s { s = $1 } NR == 1 || $2 < k { k = $2 } END { print s, k }' "$work/turns"
+    awk 'NR == 1 || $1 < t { t = $1 } NR == 1 || $2 < k { k = $2 } END { printf "%.0f %.0f\n", t, k }' "$work/turns"
 }
 
 # Each solver beside the graph alone, which `none` makes.
 measure() {
     least none "$1" "$2" >"$work/none"
-    read -r seconds room <"$work/none"
+    read -r time room <"$work/none"
     for solver in facts masks uses; do
         least "$solver" "$1" "$2" >"$work/solver"
-        read -r all_seconds all_room <"$work/solver"
-        echo "$1 $2 $solver $seconds $room $all_seconds $all_room" |
+        read -r all_time all_room <"$work/solver"
+        echo "$1 $2 $solver $time $room $all_time $all_room" |
             awk '{ printf "   %-5s %8d words, %s: %.1f ns and %.1f bytes a word\n", $1, $2, $3,
-                ($6 - $4) * 1e9 / $2, ($7 - $5) * 1024 / $2 }'
+                ($6 - $4) / $2, ($7 - $5) * 1024 / $2 }'
     done
 }
 

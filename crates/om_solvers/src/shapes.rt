@@ -6,10 +6,14 @@ use om_value::{Place, Region, Target};
 use std::alloc::Global;
 
 const DATA: Region = Region::Sec { obj: 0, number: 3 };
+
 pub(crate) const OBJECTS: u32 = 16;
 
 const ADD: u32 = 0x4123_0409;
+
 const BRANCH: u32 = 0xc3e0_0000;
+
+const SET_GP: u32 = 0x27ba_0000;
 
 #[derive(Clone, Copy, PartialEq, Eq)]
 pub(crate) enum Shape {
@@ -17,9 +21,11 @@ pub(crate) enum Shape {
     Pairs,
     /// One block.
     One,
-    /// Sixteen objects of loops of sixteen words: calls, pairs, loads, branches, jumps by registers.
+    /// Sixteen objects of loops of sixteen words: calls, pairs, loads, branches, jumps by registers. The words are a
+    /// multiple of 256.
     Mixed,
-    /// Blocks of two words, each of which branches to the one before; the first branches to the last.
+    /// Blocks of two words, each of which branches to the one before, down to the second, which goes to itself; the first
+    /// branches to the last. A block halfway writes r29.
     Chain,
 }
 
@@ -74,8 +80,13 @@ fn word(shape: Shape, words: u32, obj: u32, k: u32) -> (u32, Role) {
         Shape::Pairs if ends && k != words.wrapping_sub(1) => {
             (0xf480_0000, Role::To(at(obj, k.wrapping_add(1))))
         }
-        Shape::Chain if k == 1 => (BRANCH, Role::To(at(obj, words.wrapping_sub(2) & 0xffff_fffe))),
+        Shape::Chain if k == 1 => (
+            BRANCH,
+            Role::To(at(obj, words.wrapping_sub(2) & 0xffff_fffe)),
+        ),
+        Shape::Chain if k == 3 => (BRANCH, Role::To(at(obj, 2))),
         Shape::Chain if ends => (BRANCH, Role::To(at(obj, k.wrapping_sub(3)))),
+        Shape::Chain if k == words / 4 * 2 => (SET_GP, Role::Plain),
         Shape::Mixed => mixed(obj, k),
         _ => (ADD, Role::Plain),
     }

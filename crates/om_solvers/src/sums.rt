@@ -120,7 +120,7 @@ pub(crate) fn all_uses(g: &Graph, u: &Uses) -> u64 {
     sum
 }
 
-/// Of the uses of a graph: the readers of the ops of its first 64 blocks, since a reader is looked for along its block.
+/// Of the uses of a graph, by the first ops of its first 64 blocks, since a reader is looked for along its block.
 pub(crate) fn uses(alloc: Global, g: &Graph) -> Result<u64, NoMemory> {
     let u = Uses::scratch(alloc, g)?;
     let mut sum = 0;
