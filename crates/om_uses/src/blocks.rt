@@ -78,6 +78,8 @@ pub(crate) fn read_block(alloc: Global, g: &Graph, b: BlockId) -> Result<BlockUs
         note_load(&mut loads, &op.kind)?;
         next = g.next_op(o);
     }
+    ops.shrink_to_fit();
+    loads.shrink_to_fit();
     let last = g.last(b);
     Ok(BlockUses {
         ops,

@@ -1,4 +1,6 @@
-use Rattle.std.proofs.Common.{◌<◌, ℕ, Option, Some, sym, subst}
+use Rattle.std.proofs.Common.{◌<◌, ℕ, List, Option, Some, None, sym, subst}
+use Rattle.om_value.specs.declared.value.Target.{Target}
+use Rattle.om_uses.specs.declared.scans.OpMasks.{OpMasks}
 use Rattle.om_uses.proofs.Nodes.{OnNodes, nodes_left, nodes_more, nodes_fewer, nodes_end}
 use Rattle.om_uses.proofs.blocks.read_block.Goals as goal
 
@@ -18,5 +20,11 @@ loop-next-preserved c =
 
 pub returns : goal.returns
 returns c = λ x e.
-    let o = subst (λ (n : Option ℕ). OnNodes c.args.g.now c.args.b n c.loop-next.ops.items c.loop-next.loads.items) c.in_default.is c.loop-next.invariant in
-    nodes_end c.args.g.now c.requires.graph c.args.b c.last-last.result c.last_reads.result c.last_writes.result c.loop-next.ops.items c.loop-next.loads.items o c.last-last.ensures c.last_reads.ensures c.last_writes.ensures x e
+    let g = c.args.g.now in
+    let b = c.args.b in
+    let fit = c.shrink_to_fit.new.self.items in
+    let o = subst (λ (n : Option ℕ). OnNodes g b n c.loop-next.ops.items c.loop-next.loads.items) c.in_default.is c.loop-next.invariant in
+    let k = subst (λ (ops : List OpMasks). OnNodes g b None ops c.loop-next.loads.items) (sym c.shrink_to_fit.ensures.items) o in
+    let t = subst (λ (loads : List Target). OnNodes g b None fit loads) (sym c.shrink_to_fit-2.ensures.items) k in
+    nodes_end g c.requires.graph b c.last-last.result c.last_reads.result c.last_writes.result fit c.shrink_to_fit-2.new.self.items t c.last-last.ensures
+    c.last_reads.ensures c.last_writes.ensures x e
