@@ -1,19 +1,3 @@
-#!/bin/sh
-# Shows how fast large programs are lifted, and in how much memory. Builds a program around `lift_program` in a copy of
-# the repository, which is proved first. Needs the kit's `rt`, GNU time and 4 GB of room.
-set -eu
-top=$(cd "$(dirname "$0")/.." && pwd)
-work=$(mktemp -d)
-trap 'rm -rf "$work"' EXIT
-
-mkdir -p "$work/crates/lifter/src"
-cp "$top/HANDLES" "$work/"
-for crate in om_alpha om_io om_isa om_value om_prog om_arena om_graph om_lift; do
-    cp -r "$top/crates/$crate" "$work/crates/"
-    grep "^$crate:" "$top/crates.txt" >>"$work/crates.txt"
-done
-echo 'lifter: om_lift om_graph om_prog om_value om_isa om_io' >>"$work/crates.txt"
-cat >"$work/crates/lifter/src/main.rt" <<'END'
 // Makes a program of as many objects of 262,144 words as the input says, lifts it if the input has an `l`, and says how
 // long that took.
 #![tactic(auto)]
@@ -126,18 +110,3 @@ fn main(rt: HostRuntime) -> io::Result<()> {
     }
     Ok(())
 }
-END
-
-echo "1. Proving and building the lifter"
-cd "$work/crates/lifter"
-git -C "$work" init -q 2>/dev/null || true
-rt run >"$work/log" 2>&1 </dev/null || true
-test -x out/lifter || { tail -5 "$work/log" >&2; exit 1; }
-
-echo "2. Lifting each three times, and making it without a lift"
-for objects in 4 8 16; do
-    for turn in 1 2 3; do
-        echo "   $(echo "$objects l" | /usr/bin/time -f '%M KB' ./out/lifter 2>&1 | tr '\n' ' ')"
-    done
-    echo "   $(echo "$objects" | /usr/bin/time -f '%M KB' ./out/lifter 2>&1 | tr '\n' ' ')"
-done

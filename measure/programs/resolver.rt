@@ -1,19 +1,3 @@
-#!/bin/sh
-# Shows how fast the names of large objects are resolved. Builds a program around `resolve` in a copy of the repository,
-# which is proved first, and makes the lists of objects of make_many.py. Needs the kit's `rt`, Python 3 and 4 GB of room.
-set -eu
-top=$(cd "$(dirname "$0")/.." && pwd)
-work=$(mktemp -d)
-trap 'rm -rf "$work"' EXIT
-
-mkdir -p "$work/crates/resolver/src" "$work/files"
-cp "$top/HANDLES" "$work/"
-for crate in om_alpha om_io om_isa om_fields om_symtab om_reloc om_object om_value om_prog om_resolve; do
-    cp -r "$top/crates/$crate" "$work/crates/"
-    grep "^$crate:" "$top/crates.txt" >>"$work/crates.txt"
-done
-echo 'resolver: om_object om_prog om_resolve' >>"$work/crates.txt"
-cat >"$work/crates/resolver/src/main.rt" <<'END'
 // Reads object files from the input, each behind its length in 8 bytes, and says how long their names take to resolve.
 #![tactic(auto)]
 
@@ -76,20 +60,3 @@ fn main(rt: HostRuntime) -> io::Result<()> {
         }
     }
 }
-END
-
-echo "1. Proving and building the program"
-cd "$work/crates/resolver"
-git -C "$work" init -q 2>/dev/null || true
-rt run >"$work/log" 2>&1 </dev/null || true
-test -x out/resolver || { tail -5 "$work/log" >&2; exit 1; }
-
-echo "2. Making large objects"
-python3 -B "$top/samples/make_many.py" "$work/files"
-
-echo "3. Resolving each list three times"
-for list in "$work"/files/*.objs; do
-    for turn in 1 2 3; do
-        echo "   $(basename "$list"): $(./out/resolver <"$list")"
-    done
-done
