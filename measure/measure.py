@@ -13,7 +13,7 @@ names      `resolve` on long lists of objects
 lifts      `lift_program` on large programs
 solvers    facts, masks and uses on large graphs
 
-Each thing is done three times. The least processor seconds count, of the program and the kernel together, and the greatest memory of
+Each is done three times. The least processor seconds count, of the program and the kernel together, and the greatest memory of
 the process that is ever in use at once. With `--print` the tables go to the standard output, and the page stays as it is.
 
 `om` is the program that the environment's OM names, or one that is proved and built first; `reading`, `names`, `lifts` and `solvers` build
