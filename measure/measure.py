@@ -105,7 +105,7 @@ def built_program(name, stands_on, folder):
         shutil.copytree(os.path.join(TOP, "crates", name), os.path.join(crates, name), ignore=shutil.ignore_patterns("out"))
     else:
         os.makedirs(os.path.join(crates, name, "src"))
-        shutil.copy(os.path.join(HERE, "programs", name + ".rt"), os.path.join(crates, name, "src/main.rt"))
+        shutil.copy(os.path.join(HERE, "programs", name + ".rattle"), os.path.join(crates, name, "src/main.rt"))
     wanted, left = set(), [*stands_on]
     while left:
         crate = left.pop()
