@@ -6,7 +6,7 @@ ghost use Rattle.om_alpha.specs.declared.op.AluOp.TheVariants.{Add, Sub, Mul, Ad
 use om_alpha::{AluOp, Cmp, Cond, Scale, Size, Wide, Width};
 use om_isa::{BrOp, JumpOp, MemOp, MiscOp};
 
-pub(crate) fn memory(op: MemOp) -> &'static [u8]
+pub fn memory(op: MemOp) -> &'static [u8]
     ensures name { result.now ≡ memory_name op }
     ensures short { length result.now ≤ 13 }
 {
@@ -26,7 +26,7 @@ pub(crate) fn memory(op: MemOp) -> &'static [u8]
     }
 }
 
-pub(crate) fn branch(op: BrOp) -> &'static [u8]
+pub fn branch(op: BrOp) -> &'static [u8]
     ensures name { result.now ≡ branch_name op }
     ensures short { length result.now ≤ 13 }
 {
@@ -44,7 +44,7 @@ pub(crate) fn branch(op: BrOp) -> &'static [u8]
     }
 }
 
-pub(crate) fn jump(kind: JumpOp) -> &'static [u8]
+pub fn jump(kind: JumpOp) -> &'static [u8]
     ensures name { result.now ≡ jump_name kind }
     ensures short { length result.now ≤ 13 }
 {
@@ -56,7 +56,7 @@ pub(crate) fn jump(kind: JumpOp) -> &'static [u8]
     }
 }
 
-pub(crate) fn barrier(op: MiscOp) -> &'static [u8]
+pub fn barrier(op: MiscOp) -> &'static [u8]
     ensures name { result.now ≡ barrier_name op }
     ensures short { length result.now ≤ 13 }
 {
@@ -68,7 +68,7 @@ pub(crate) fn barrier(op: MiscOp) -> &'static [u8]
     }
 }
 
-pub(crate) fn conditional_move(cond: Cond) -> &'static [u8]
+pub fn conditional_move(cond: Cond) -> &'static [u8]
     ensures name { result.now ≡ move_name cond }
     ensures short { length result.now ≤ 13 }
 {
@@ -194,7 +194,7 @@ fn mask_high(size: Wide) -> &'static [u8]
     }
 }
 
-pub(crate) fn operate(op: AluOp) -> &'static [u8]
+pub fn operate(op: AluOp) -> &'static [u8]
     ensures name { result.now ≡ operate_name op }
     ensures short { length result.now ≤ 13 }
 {
