@@ -145,9 +145,9 @@ register_kind (c ∷ cs) h =
 
 pub register_clear : (c r : ℕ) → in_register c ≡ false → nat_lt r 32 ≡ true → is_clear c (register_text r) ≡ true
 unfolding register_text
-register_clear c r no h =
+register_clear c r other h =
     let small : r < 32 = ltb-true r 32 h in
-    clear_by in_register c (114 ∷ decimal r) no (register_kind (decimal r) (decimal_plain r (omega (arith, small))).digits)
+    clear_by in_register c (114 ∷ decimal r) other (register_kind (decimal r) (decimal_plain r (omega (arith, small))).digits)
 
 -- ---- numbers
 
@@ -201,16 +201,16 @@ decimal_kind (c ∷ cs) h =
     let p = and_parts (is_digit c) (list_all is_digit cs) h in and_from _ _ (or_left _ _ p.0) (decimal_kind cs p.1)
 
 pub decimal_clear : (c : ℕ) (n : Numeral) → in_decimal c ≡ false → is_plain n ≡ true → is_clear c (numeral_text n) ≡ true
-decimal_clear c n no h = clear_by_sign n.minus n.hex n.digits h where
+decimal_clear c n other h = clear_by_sign n.minus n.hex n.digits h where
   clear_by_sign : (minus hex : Bool) (ds : List ℕ) → is_plain (record { minus = minus; hex = hex; digits = ds }) ≡ true →
       is_clear c (numeral_text (record { minus = minus; hex = hex; digits = ds })) ≡ true
   clear_by_sign minus true ds h = cc
   clear_by_sign true false ds h =
       let p = and_parts (is_plain_digits ds) _ h in
-      clear_by in_decimal c (45 ∷ ds) no (decimal_kind ds (plain_parts ds p.0).digits)
+      clear_by in_decimal c (45 ∷ ds) other (decimal_kind ds (plain_parts ds p.0).digits)
   clear_by_sign false false ds h =
       let p = and_parts (is_plain_digits ds) _ h in
-      clear_by in_decimal c ds no (decimal_kind ds (plain_parts ds p.0).digits)
+      clear_by in_decimal c ds other (decimal_kind ds (plain_parts ds p.0).digits)
 
 -- ---- the numeral of an integer
 
@@ -225,11 +225,13 @@ plain_printed low high n lo hi h k = printed_by n.minus n.hex n.digits h k where
   small : (minus : Bool) (m : ℕ) → is_sized low high minus m ≡ true → m < 2 ^ 64
   small true m k = let b = leb-true m low k in omega (arith, b, lo)
   small false m k = let b = leb-true m high k in omega (arith, b, hi)
+
   below_by : (ds : List ℕ) (m : ℕ) → value_behind 10 0 ds ≡ m → decimal m ≡ ds → begins_zero ds ≡ false →
       signed_decimal (signed true m) ≡ 45 ∷ ds
-  below_by ds zero e back no =
+  below_by ds zero e back some =
       let z : begins_zero (48 ∷ []) ≡ begins_zero ds = ap begins_zero (sym (decimal_digit 0 (lit< tt)) ∙ back) in cc
-  below_by ds (suc m) e back no = ap (λ q. 45 ∷ q) back
+  below_by ds (suc m) e back some = ap (λ q. 45 ∷ q) back
+
   printed_by : (minus hex : Bool) (ds : List ℕ) → is_plain (record { minus = minus; hex = hex; digits = ds }) ≡ true →
       is_sized low high minus (magnitude (record { minus = minus; hex = hex; digits = ds })) ≡ true →
       signed_decimal (signed minus (magnitude (record { minus = minus; hex = hex; digits = ds })))
@@ -246,12 +248,13 @@ pub plain_size : (high : ℕ) (n : Numeral) → high < 2 ^ 32 → is_plain n ≡
     decimal (magnitude n) ≡ numeral_text n
 plain_size high n hi h k = size_by n.minus n.hex n.digits h k where
   none_below : (ds : List ℕ) → is_plain_digits ds ≡ true → begins_zero ds ≡ false → nat_le (value_behind 10 0 ds) 0 ≡ true → ⊥
-  none_below ds p no k =
+  none_below ds p some k =
       let b = leb-true (value_behind 10 0 ds) 0 k in
       let z : value_behind 10 0 ds ≡ 0 = omega (arith, b) in
       let back = plain_back ds p (omega (arith, b)) in
       let f : begins_zero (48 ∷ []) ≡ begins_zero ds = ap begins_zero (sym (ap decimal z ∙ decimal_digit 0 (lit< tt)) ∙ back) in
       cc
+
   size_by : (minus hex : Bool) (ds : List ℕ) → is_plain (record { minus = minus; hex = hex; digits = ds }) ≡ true →
       is_sized 0 high minus (magnitude (record { minus = minus; hex = hex; digits = ds })) ≡ true →
       decimal (magnitude (record { minus = minus; hex = hex; digits = ds })) ≡ numeral_text (record { minus = minus; hex = hex; digits = ds })
@@ -293,12 +296,12 @@ numeral_is low high (negsuc n) lo hi h =
     let v = decimal_value (suc n) small in
     record {
       plain = and_from _ _ (plain_from (decimal (suc n)) (decimal_plain (suc n) small))
-        (not_from_false _ (decimal_first (suc n) (omega arith) small));
+          (not_from_false _ (decimal_first (suc n) (omega arith) small));
       printed = refl;
       value = ap (signed true) v;
       sized = ap (λ m. nat_le m low) v ∙ h;
     }
 
 -- the numeral of a literal
-pub literal_is : (high n : ℕ) → high < 2 ^ 32 → nat_lt n (suc high) ≡ true → IsNumeralOf 0 high (pos n) (numeral_of (pos n))
-literal_is high n hi h = numeral_is 0 high (pos n) (lit< tt) hi h
+pub literal_is : (n : ℕ) → nat_lt n 256 ≡ true → IsNumeralOf 0 255 (pos n) (numeral_of (pos n))
+literal_is n h = let b = ltb-true n 256 h in numeral_is 0 255 (pos n) (lit< tt) (lit< tt) (le-leb n 255 (omega (arith, b)))

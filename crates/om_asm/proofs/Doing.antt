@@ -27,7 +27,7 @@ use Rattle.om_asm.specs.Forms.{form_name, form_of}
 use Rattle.om_asm.specs.Reading.{cut_at, both, register_at, decimal_at, base_at}
 use Rattle.om_asm.proofs.Pieces.{Reads, is_clear, cut_found, cut_sound}
 use Rattle.om_asm.proofs.Decimals.{numeral_of, IsNumeralOf, numeral_is, literal_is, plain_printed, plain_size, between_sized, decimal_value, reads_decimal}
-use Rattle.om_asm.proofs.Operands.{is_reg, closed_text, reads_base, place_at, place_text, is_place, reads_place, Second, InRegister, Literally, second_text, last_at, last_text, is_last, is_second, reads_last, first_at, behind_first, reads_first}
+use Rattle.om_asm.proofs.Pairs.{is_reg, closed_text, reads_base, place_at, place_text, is_place, reads_place, Second, InRegister, Literally, second_text, last_at, last_text, is_last, is_second, reads_last, first_at, behind_first, reads_first}
 use Rattle.om_asm.proofs.Named.{name_read, name_clear, name_is}
 
 -- ---- statements of one instruction
@@ -478,13 +478,13 @@ second_of (Literal n) = Literally (numeral_of (pos n))
 spelled_by : (rb : Opnd) → has_register rb ≡ true → operand_fits rb ≡ true → IsSpelledBy rb (second_of rb)
 spelled_by (R r) h f = record { same_text = register_operand r; second = h; made = λ make start rc t. refl }
 spelled_by (Literal m) h f =
-    let n = literal_is 255 m (lit< tt) f in
+    let n = literal_is m f in
     let b = ltb-true m 256 f in
     record {
       same_text = literal_operand m;
       second = n.plain;
       made = λ make start rc t. cond-true _ _ _ (t.fits_is false (magnitude (numeral_of (pos m))) ∙ n.sized)
-        ∙ ap Does (t.put_is false (magnitude (numeral_of (pos m))) ∙ ap (λ k. make (Literal k)) (decimal_value m (omega (arith, b))));
+          ∙ ap Does (t.put_is false (magnitude (numeral_of (pos m))) ∙ ap (λ k. make (Literal k)) (decimal_value m (omega (arith, b))));
     }
 
 module _ (make : Opnd → Instr) (start : List ℕ) (rc : ℕ) (takes : TakesOperand make start rc) (f : Form) (t : List ℕ) where
@@ -648,8 +648,8 @@ unfit_complete (instr.Mem op ra rb disp) n h = memory_unfit op ra rb disp n h
 unfit_complete (instr.Branch op ra disp) n h = branch_unfit op ra disp n h
 unfit_complete (instr.Alu op ra rb rc) n h = operate_unfit op ra rb rc n h
 unfit_complete (instr.Cmov c ra rb rc) n h = move_unfit c ra rb rc n h
-unfit_complete (instr.Jump kind ra rb hint) n h = let k = and_parts _ _ h in let z = k.1 in cc
-unfit_complete (instr.Misc op ra rb) n h = let k = and_parts _ _ h in let z = k.1 in cc
+unfit_complete (instr.Jump kind ra rb hint) n h = let z : false ≡ true = (and_parts (is_spelled (instr.Jump kind ra rb hint)) false h).1 in cc
+unfit_complete (instr.Misc op ra rb) n h = let z : false ≡ true = (and_parts (is_spelled (instr.Misc op ra rb)) false h).1 in cc
 unfit_complete instr.Fnop n h = cc
 unfit_complete instr.Halt n h = cc
 unfit_complete instr.Callsys n h = cc

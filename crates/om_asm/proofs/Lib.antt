@@ -1,6 +1,7 @@
 pub mod Pieces
+pub mod Bounded
 pub mod Decimals
-pub mod Operands
+pub mod Pairs
 pub mod Named
 pub mod Doing
-pub mod Instructions
+pub mod Kept

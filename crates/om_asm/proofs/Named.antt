@@ -4,7 +4,7 @@ use Rattle.std.specs.Prelude.{bytes_eq, find}
 use Rattle.std.specs.List.{list_any}
 use Rattle.std.proofs.lemmas.Slice.Eq.{bytes_eq-Decides}
 use Rattle.om_alpha.specs.declared.op.Width.TheVariants.{Long}
-use Rattle.om_alpha.specs.declared.op.Scale.TheVariants.{One}
+use Rattle.om_alpha.specs.declared.op.Scale.TheVariants.{One, Four, Eight}
 use Rattle.om_alpha.specs.declared.op.Cmp.TheVariants as cmp
 use Rattle.om_alpha.specs.declared.op.Cond.TheVariants as cond
 use Rattle.om_alpha.specs.declared.op.Size.TheVariants as size
@@ -26,7 +26,11 @@ name_read (Memory mem.Lda) = refl
 name_read (Jump jump.Jmp) = refl
 name_read (Branch (br.If cond.Eq)) = refl
 name_read (Operate (Add One Long)) = refl
+name_read (Operate (Add Four Long)) = refl
+name_read (Operate (Add Eight Long)) = refl
 name_read (Operate (Sub One Long)) = refl
+name_read (Operate (Sub Four Long)) = refl
+name_read (Operate (Sub Eight Long)) = refl
 name_read (Operate (Mul Long)) = refl
 name_read (Operate (AddV Long)) = refl
 name_read (Operate (SubV Long)) = refl
@@ -47,7 +51,11 @@ name_clear (Memory mem.Lda) = refl
 name_clear (Jump jump.Jmp) = refl
 name_clear (Branch (br.If cond.Eq)) = refl
 name_clear (Operate (Add One Long)) = refl
+name_clear (Operate (Add Four Long)) = refl
+name_clear (Operate (Add Eight Long)) = refl
 name_clear (Operate (Sub One Long)) = refl
+name_clear (Operate (Sub Four Long)) = refl
+name_clear (Operate (Sub Eight Long)) = refl
 name_clear (Operate (Mul Long)) = refl
 name_clear (Operate (AddV Long)) = refl
 name_clear (Operate (SubV Long)) = refl

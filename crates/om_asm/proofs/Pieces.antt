@@ -2,11 +2,11 @@
 use Rattle.std.proofs.Common.{◌≡◌, ◌⊎◌, inl, inr, ℕ, zero, suc, ◌+◌, ◌<◌, ◌≤◌, ◌==◌, ◌&&◌, Bool, true, false, not, cond, nat_lt, List, [], ◌∷◌, ◌++◌, length, length-append, take, drop, get_or, Option, Some, None, refl, ap, sym, subst, ◌∙◌, arith, add-one, append_assoc, take-append-drop, drop-cons}
 use Rattle.std.specs.Prelude.{option_map, option_and_then, position}
 use Rattle.std.specs.List.{list_all, position_or_len}
-use Rattle.std.proofs.lemmas.Bool.{eqb-true, eq-eqb, eqb-false, lt-ltb, and_parts, and_from, cond-true, cond-false, not-true}
+use Rattle.std.proofs.lemmas.Bool.{eqb-true, eq-eqb, eqb-false, lt-ltb, and_parts, and_from, cond-true, cond-false, not_from_true}
 use Rattle.std.proofs.lemmas.List.Quantifiers.{position-Some}
 use Rattle.std.proofs.Math.Seq.{take-append_seam, drop-append-add}
 use Rattle.om_isa.proofs.Found.{map_some, then_some, if_some}
-use Rattle.om_asm.specs.Reading.{cut_at, behind, both, if_empty, ended}
+use Rattle.om_asm.specs.Reading.{cut_at, behind, paired, both, if_empty, ended}
 
 pub record Reads {A : Type 0} (f : List ℕ → Option A) (text : A → List ℕ) (formed : A → Bool) : Type 0 where
   pub sound : (t : List ℕ) (a : A) → f t ≡ Some a → (text a ≡ t) × (formed a ≡ true)
@@ -19,10 +19,10 @@ is_clear c text = list_all (λ x. not (x == c)) text
 -- ---- a piece before the first c
 
 place_clear : (c : ℕ) (a b : List ℕ) → is_clear c a ≡ true → position_or_len (λ x. x == c) (a ++ c ∷ b) ≡ length a
-place_clear c [] b h = cond-true (c == c) 0 _ (eq-eqb c c refl)
+place_clear c [] b h = cond-false (not (c == c)) (1 + position_or_len (λ x. x == c) b) 0 (not_from_true _ (eq-eqb c c refl))
 place_clear c (x ∷ a) b h =
     let p = and_parts (not (x == c)) (is_clear c a) h in
-    cond-false (x == c) 0 _ (not-true (x == c) p.0) ∙ ap (λ n. 1 + n) (place_clear c a b p.1) ∙ next (length a)
+    cond-true (not (x == c)) (1 + position_or_len (λ x. x == c) (a ++ c ∷ b)) 0 p.0 ∙ ap (λ n. 1 + n) (place_clear c a b p.1) ∙ next (length a)
   where
     next : (n : ℕ) → 1 + n ≡ suc n
     next n = omega arith
@@ -59,7 +59,7 @@ module _ {A B : Type 0} (c : ℕ) (f : List ℕ → Option A) (g : List ℕ → 
   both_sound : Reads f tf kf → Reads g tg kg → (t : List ℕ) (q : A × B) → both c f g t ≡ Some q →
       (tf q.0 ++ c ∷ tg q.1 ≡ t) × ((kf q.0 && kg q.1) ≡ true)
   both_sound rf rg t q e =
-      let cut = then_some (λ p. option_and_then (λ a. option_map (λ b. (a, b)) (g p.1)) (f p.0)) (cut_at c t) q e in
+      let cut = then_some (λ p. paired (f p.0) (g p.1)) (cut_at c t) q e in
       let one = then_some (λ a. option_map (λ b. (a, b)) (g cut.0.1)) (f cut.0.0) q cut.2 in
       let two = map_some (λ b. (one.0, b)) (g cut.0.1) q one.2 in
       let sf = rf.sound cut.0.0 one.0 one.1 in
@@ -77,8 +77,8 @@ module _ {A B : Type 0} (c : ℕ) (f : List ℕ → Option A) (g : List ℕ → 
       let cut = cut_found c (tf q.0) (tg q.1) (clear q.0 k.0) in
       let one = rf.complete q.0 k.0 in
       let two = rg.complete q.1 k.1 in
-      ap (option_and_then (λ p. option_and_then (λ a. option_map (λ b. (a, b)) (g p.1)) (f p.0))) cut
-      ∙ ap (option_and_then (λ a. option_map (λ b. (a, b)) (g (tg q.1)))) one ∙ ap (option_map (λ b. (q.0, b))) two
+      ap (option_and_then (λ p. paired (f p.0) (g p.1))) cut
+      ∙ ap (λ z. paired z (g (tg q.1))) one ∙ ap (option_map (λ b. (q.0, b))) two
 
   pub reads_both : Reads f tf kf → Reads g tg kg → ((a : A) → kf a ≡ true → is_clear c (tf a) ≡ true) →
       Reads (both c f g) (λ q. tf q.0 ++ c ∷ tg q.1) (λ q. kf q.0 && kg q.1)
@@ -135,10 +135,10 @@ module _ {A : Type 0} (c : ℕ) (f : List ℕ → Option A) (tf : A → List ℕ
 -- ---- bytes of one kind
 
 pub clear_by : (p : ℕ → Bool) (c : ℕ) (t : List ℕ) → p c ≡ false → list_all p t ≡ true → is_clear c t ≡ true
-clear_by p c [] no h = refl
-clear_by p c (x ∷ xs) no h =
+clear_by p c [] other h = refl
+clear_by p c (x ∷ xs) other h =
     let k = and_parts (p x) (list_all p xs) h in
-    and_from _ _ (clear_at (x == c) refl k.0) (clear_by p c xs no k.1)
+    and_from _ _ (clear_at (x == c) refl k.0) (clear_by p c xs other k.1)
   where
     clear_at : (b : Bool) → (x == c) ≡ b → p x ≡ true → not b ≡ true
     clear_at false e k = refl
@@ -149,19 +149,21 @@ clear_append c [] b h k = k
 clear_append c (x ∷ a) b h k = let p = and_parts (not (x == c)) (is_clear c a) h in and_from _ _ p.0 (clear_append c a b p.1 k)
 
 -- a reading of what another reading gives, as something else
+pair_mapped : {A B C D : Type 0} (h : A → C) (k : B → D) (o : Option A) (q : Option B) →
+    paired (option_map h o) (option_map k q) ≡ option_map (λ z. (h z.0, k z.1)) (paired o q)
+pair_mapped h k None q = refl
+pair_mapped h k (Some a) None = refl
+pair_mapped h k (Some a) (Some b) = refl
+
+cut_mapped : {A B C D : Type 0} (f : List ℕ → Option A) (g : List ℕ → Option B) (h : A → C) (k : B → D)
+    (f' : List ℕ → Option C) (g' : List ℕ → Option D) → ((t : List ℕ) → f' t ≡ option_map h (f t)) → ((t : List ℕ) → g' t ≡ option_map k (g t)) →
+    (o : Option (List ℕ × List ℕ)) → option_and_then (λ p. paired (f' p.0) (g' p.1)) o
+    ≡ option_map (λ z. (h z.0, k z.1)) (option_and_then (λ p. paired (f p.0) (g p.1)) o)
+cut_mapped f g h k f' g' ef eg None = refl
+cut_mapped f g h k f' g' ef eg (Some p) =
+    ap (λ z. paired z (g' p.1)) (ef p.0) ∙ ap (λ z. paired (option_map h (f p.0)) z) (eg p.1) ∙ pair_mapped h k (f p.0) (g p.1)
+
 pub both_mapped : {A B C D : Type 0} (c : ℕ) (f : List ℕ → Option A) (g : List ℕ → Option B) (h : A → C) (k : B → D)
     (f' : List ℕ → Option C) (g' : List ℕ → Option D) → ((t : List ℕ) → f' t ≡ option_map h (f t)) → ((t : List ℕ) → g' t ≡ option_map k (g t)) →
-    (t : List ℕ) → both c f' g' t ≡ option_map (λ q. (h q.0, k q.1)) (both c f g t)
-both_mapped c f g h k f' g' ef eg t = mapped_by (cut_at c t) where
-  pair_by : (o : Option A) (q : Option B) → option_and_then (λ a. option_map (λ b. (a, b)) (option_map k q)) (option_map h o)
-      ≡ option_map (λ q. (h q.0, k q.1)) (option_and_then (λ a. option_map (λ b. (a, b)) q) o)
-  pair_by None q = refl
-  pair_by (Some a) None = refl
-  pair_by (Some a) (Some b) = refl
-  mapped_by : (o : Option (List ℕ × List ℕ)) → option_and_then (λ p. option_and_then (λ a. option_map (λ b. (a, b)) (g' p.1)) (f' p.0)) o
-      ≡ option_map (λ q. (h q.0, k q.1)) (option_and_then (λ p. option_and_then (λ a. option_map (λ b. (a, b)) (g p.1)) (f p.0)) o)
-  mapped_by None = refl
-  mapped_by (Some p) =
-      ap (λ z. option_and_then (λ a. option_map (λ b. (a, b)) (g' p.1)) z) (ef p.0)
-      ∙ ap (λ z. option_and_then (λ a. option_map (λ b. (a, b)) z) (option_map h (f p.0))) (eg p.1)
-      ∙ pair_by (f p.0) (g p.1)
+    (t : List ℕ) → both c f' g' t ≡ option_map (λ z. (h z.0, k z.1)) (both c f g t)
+both_mapped c f g h k f' g' ef eg t = cut_mapped f g h k f' g' ef eg (cut_at c t)

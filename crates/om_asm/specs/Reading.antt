@@ -32,9 +32,12 @@ abbrev pub behind : ℕ → List ℕ → Option (List ℕ)
 behind c [] = None
 behind c (x ∷ xs) = if x == c then Some xs else None
 
+abbrev pub paired : {A B : Type 0} → Option A → Option B → Option (A × B)
+paired o q = option_and_then (λ a. option_map (λ b. (a, b)) q) o
+
 -- two readings, of what stands before the first c and of what stands behind it
 abbrev pub both : {A B : Type 0} → ℕ → (List ℕ → Option A) → (List ℕ → Option B) → List ℕ → Option (A × B)
-both c f g text = option_and_then (λ p. option_and_then (λ a. option_map (λ b. (a, b)) (g p.1)) (f p.0)) (cut_at c text)
+both c f g text = option_and_then (λ p. paired (f p.0) (g p.1)) (cut_at c text)
 
 abbrev pub if_empty : {A : Type 0} → List ℕ → Option A → Option A
 if_empty [] o = o
@@ -170,3 +173,9 @@ said_by text (Some p) = option_and_then (λ f. said_with f p.1) (form_of p.0)
 -- what a text says, where it is an instruction but for the size of its number
 unfoldable pub said_in : List ℕ → Option Said
 said_in text = said_by text (cut_at 32 text)
+
+-- the instruction, where it is one
+abbrev pub answer_of : Option Said → Option Instr
+answer_of None = None
+answer_of (Some Unfit) = None
+answer_of (Some (Does i)) = Some i

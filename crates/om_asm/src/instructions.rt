@@ -1,11 +1,11 @@
 // What a text of an instruction says.
-ghost use Rattle.std.specs.Prelude.{◌≡◌, ℤ};
+ghost use Rattle.std.specs.Prelude.{◌≡◌, ◌<◌};
 ghost use Rattle.om_asm.specs.Statements.{jump_hint};
 ghost use Rattle.om_asm.specs.Reading.{memory_made, branch_made, operate_made, move_made, said as said_of, memory_said, jump_said, branch_said, extension_said, three_said, operate_said, move_said, said_with, said_alone, said_in};
 
 use crate::cutting::cut;
 use crate::forms::{Form, form_of};
-use crate::numbers::{Number, number};
+use crate::numbers::{Number, decimal};
 use crate::operands::{Operand, address, base, register, result};
 use om_alpha::{AluOp, Cond};
 use om_isa::{BrOp, Disp, Hint, Instr, JumpOp, MemOp, MiscOp, Reg};
@@ -19,7 +19,7 @@ pub enum Said {
     Unfit,
 }
 
-fn said(instr: Option<Instr>) -> Said
+fn told(instr: Option<Instr>) -> Said
     ensures { result ≡ said_of instr }
 {
     match instr {
@@ -69,7 +69,7 @@ fn memory(op: MemOp, text: &[u8]) -> Option<Said>
     let (first, rest) = cut(text, b',')?;
     let ra = register(first)?;
     let (n, rb) = address(rest)?;
-    Some(said(memory_of(op, ra, n, rb)))
+    Some(told(memory_of(op, ra, n, rb)))
 }
 
 // The hint of a jump whose text does not show it.
@@ -107,8 +107,8 @@ fn branch(op: BrOp, text: &[u8]) -> Option<Said>
 {
     let (first, rest) = cut(text, b',')?;
     let ra = register(first)?;
-    let n = number(rest)?;
-    Some(said(branch_of(op, ra, n)))
+    let n = decimal(rest)?;
+    Some(told(branch_of(op, ra, n)))
 }
 
 // A register by its number, below 32.
@@ -127,7 +127,7 @@ fn extension(op: AluOp, text: &[u8]) -> Option<Said>
     ensures { result ≡ extension_said op text.now }
 {
     let (rb, rc) = result(text)?;
-    Some(said(operate_of(op, numbered(31), rb, rc)))
+    Some(told(operate_of(op, numbered(31), rb, rc)))
 }
 
 #[tactic(auto, unfolding(crate::specs::Reading::three_said))]
@@ -137,7 +137,7 @@ fn three(op: AluOp, text: &[u8]) -> Option<Said>
     let (first, rest) = cut(text, b',')?;
     let ra = register(first)?;
     let (rb, rc) = result(rest)?;
-    Some(said(operate_of(op, ra, rb, rc)))
+    Some(told(operate_of(op, ra, rb, rc)))
 }
 
 fn operate(op: AluOp, text: &[u8]) -> Option<Said>
@@ -156,7 +156,7 @@ fn conditional_move(cond: Cond, text: &[u8]) -> Option<Said>
     let (first, rest) = cut(text, b',')?;
     let ra = register(first)?;
     let (rb, rc) = result(rest)?;
-    Some(said(move_of(cond, ra, rb, rc)))
+    Some(told(move_of(cond, ra, rb, rc)))
 }
 
 // An instruction of a form, by its operands.

@@ -3,7 +3,6 @@ ghost use Rattle.om_asm.specs.Parsing.{TextsAreRead};
 
 /// A text has at most one instruction whose hidden fields are usual, and that of the text of an instruction is that
 /// instruction, but for hidden fields.
-#[tactic(auto, using(crate::proofs::Instructions::texts_read))]
 pub fn texts_are_read()
     ensures { TextsAreRead }
 {}

@@ -1,7 +1,8 @@
 // Numbers in a text.
 ghost use Rattle.std.specs.Prelude.{◌≡◌, ◌<◌, ◌^◌, true, false, min, option_map};
+ghost use Rattle.std.specs.List.{list_all};
 ghost use Rattle.om_asm.specs.Numerals.{is_digit as digit, are_digits as digits, value_behind, signed, begins_zero as zero_first, is_plain_digits as plain_digits};
-ghost use Rattle.om_asm.specs.Reading.{decimal, if_plain, number_of, number_at, if_sized};
+ghost use Rattle.om_asm.specs.Reading.{decimal as decimal_of, if_plain, number_of, number_at, if_sized};
 
 use crate::cutting::behind;
 
@@ -21,10 +22,16 @@ fn is_digit(c: u8) -> bool
     c >= b'0' && c <= b'9'
 }
 
+fn all_digits(text: &[u8]) -> bool
+    ensures { result ≡ list_all digit text.now }
+{
+    text.iter().all(|c| is_digit(*c))
+}
+
 fn are_decimal(text: &[u8]) -> bool
     ensures { result ≡ digits false text.now }
 {
-    !text.is_empty() && text.iter().all(|c| is_digit(*c))
+    !text.is_empty() && all_digits(text)
 }
 
 fn begins_zero(text: &[u8]) -> bool
@@ -57,7 +64,7 @@ pub(crate) fn decimal_value(text: &[u8]) -> u128
 
 // The number that digits behind a sign say, where they are as an instruction has them.
 fn number_behind(minus: bool, digits: &[u8]) -> Option<Number>
-    ensures { result ≡ option_map number_of (if_plain (decimal minus digits.now)) }
+    ensures { result ≡ option_map number_of (if_plain (decimal_of minus digits.now)) }
 {
     if !is_plain(digits) || minus && begins_zero(digits) {
         return None;
@@ -70,7 +77,7 @@ fn number_behind(minus: bool, digits: &[u8]) -> Option<Number>
 
 /// The decimal number that a text is, without leading zeros and with no sign before 0.
 #[tactic(auto, unfolding(crate::specs::Reading::number_at, crate::specs::Reading::decimal_at))]
-pub(crate) fn number(text: &[u8]) -> Option<Number>
+pub(crate) fn decimal(text: &[u8]) -> Option<Number>
     ensures { result ≡ number_at text.now }
 {
     match behind(text, b'-') {

@@ -3,7 +3,7 @@ ghost use Rattle.std.specs.Prelude.{◌≡◌};
 ghost use Rattle.om_asm.specs.Reading.{register_at, closed_at, base_at, address_at, operand_at, result_at, opnd_of};
 
 use crate::cutting::{behind, cut};
-use crate::numbers::{Number, decimal_value, is_plain, number};
+use crate::numbers::{Number, decimal, decimal_value, is_plain};
 use om_isa::{Opnd, Reg};
 
 /// The second operand of an operate instruction, whose literal may be no byte.
@@ -55,18 +55,18 @@ pub(crate) fn address(text: &[u8]) -> Option<(Number, Reg)>
     ensures { result ≡ address_at text.now }
 {
     let (front, rest) = cut(text, b'(')?;
-    let displacement = number(front)?;
+    let displacement = decimal(front)?;
     let register = closed(rest)?;
     Some((displacement, register))
 }
 
 #[tactic(auto, unfolding(crate::specs::Reading::operand_at))]
-fn operand(text: &[u8]) -> Option<Operand>
+fn second(text: &[u8]) -> Option<Operand>
     ensures { result ≡ operand_at text.now }
 {
     match behind(text, b'#') {
         Some(literal) => {
-            let value = number(literal)?;
+            let value = decimal(literal)?;
             Some(Operand::Literal(value))
         }
         None => {
@@ -81,9 +81,9 @@ fn operand(text: &[u8]) -> Option<Operand>
 pub(crate) fn result(text: &[u8]) -> Option<(Operand, Reg)>
     ensures { result ≡ result_at text.now }
 {
-    let (second, third) = cut(text, b',')?;
-    let rb = operand(second)?;
-    let rc = register(third)?;
+    let (front, rest) = cut(text, b',')?;
+    let rb = second(front)?;
+    let rc = register(rest)?;
     Some((rb, rc))
 }
 

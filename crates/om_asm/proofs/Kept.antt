@@ -28,10 +28,10 @@ use Rattle.om_asm.specs.declared.forms.Form.TheVariants.{Memory, Jump, Branch, O
 use Rattle.om_asm.specs.Numerals.{Numeral, magnitude, signed, is_sized}
 use Rattle.om_asm.specs.Statements.{Statement, Does, Unfit, statement_text, is_spelled, has_register, hidden_ra, jump_hint, is_between, operand_fits, fits, fits_with, is_statement}
 use Rattle.om_asm.specs.Forms.{form_of}
-use Rattle.om_asm.specs.Reading.{cut_at, both, register_at, decimal_at, base_at, number_of, number_at, address_at, operand_at, result_at, said, if_sized, opnd_of, memory_made, branch_made, operate_made, move_made, memory_said, jump_said, branch_said, extension_said, three_said, operate_said, move_said, said_with, said_alone, said_by, said_in}
+use Rattle.om_asm.specs.Reading.{cut_at, both, register_at, decimal_at, base_at, number_of, number_at, address_at, operand_at, result_at, said, if_sized, opnd_of, memory_made, branch_made, operate_made, move_made, memory_said, jump_said, branch_said, extension_said, three_said, operate_said, move_said, said_with, said_alone, said_by, said_in, answer_of}
 use Rattle.om_asm.specs.Parsing.{IsTextOf, ParsesInstr, usual_ra, usual_of, TextsAreRead}
 use Rattle.om_asm.proofs.Pieces.{both_mapped}
-use Rattle.om_asm.proofs.Operands.{place_at, Second, InRegister, Literally, last_at, first_at, map_id, map_map, operand_of, address_mapped, number_opened, result_mapped}
+use Rattle.om_asm.proofs.Pairs.{place_at, Second, InRegister, Literally, last_at, first_at, map_id, map_map, operand_of, address_mapped, number_opened, result_mapped}
 use Rattle.om_asm.proofs.Doing.{Spells, put, numbered, with_second, memory_of, jump_of, branch_of, extension_of, three_of, move_of, operate_with, does_with, does_alone, does_by, does_in, does_sound, does_complete}
 
 -- ---- what is kept of a statement
@@ -180,9 +180,11 @@ said_kept t = kept_by (cut_at 32 t) where
       option_and_then (λ f. said_with f operands) o ≡ option_map kept_of (option_and_then (λ f. does_with f operands) o)
   with_by None operands = refl
   with_by (Some f) operands = with_kept f operands
+
   alone_by : (o : Option Form) → option_and_then said_alone o ≡ option_map kept_of (option_and_then does_alone o)
   alone_by None = refl
   alone_by (Some f) = alone_kept f
+
   kept_by : (o : Option (List ℕ × List ℕ)) → said_by t o ≡ option_map kept_of (does_by t o)
   kept_by None = alone_by (form_of t)
   kept_by (Some p) = with_by (form_of p.0) p.1
@@ -287,11 +289,6 @@ kept_ends t e i h = let k = text_read t i h in cc
 
 unfit_ends : (t : List ℕ) → said_in t ≡ Some kept.Unfit → ParsesInstr t None
 unfit_ends t e i h = let k = text_read t i h in cc
-
--- what is answered, by what the text says
-abbrev pub answer_of : Option Said → Option Instr
-answer_of (Some (kept.Does i)) = Some i
-answer_of _ = None
 
 pub parsed : (t : List ℕ) (o : Option Said) → said_in t ≡ o → ParsesInstr t (answer_of o)
 parsed t None e = kept_ends t e
