@@ -1,6 +1,6 @@
 -- Values of digits of which all from some number on count as that number.
-use Rattle.std.proofs.Common.{◌≡◌, ◌⊎◌, inl, inr, ℕ, zero, suc, ◌+◌, ◌*◌, ◌^◌, ◌≤◌, ◌<◌, min, nat_le, ◌-◌, ◌&&◌, Bool, true, length, drop, get_or, drop-cons, List, [], ◌∷◌, refl, ap, sym, ◌∙◌, arith}
-use Rattle.std.proofs.lemmas.Bool.{cases_lt, and_parts, leb-true, le-leb, cond-true}
+use Rattle.std.proofs.Common.{◌≡◌, ◌⊎◌, inl, inr, ℕ, suc, ◌+◌, ◌*◌, ◌^◌, ◌≤◌, ◌<◌, min, nat_le, ◌-◌, true, length, drop, get_or, drop-cons, List, [], ◌∷◌, ap, sym, ◌∙◌, arith}
+use Rattle.std.proofs.lemmas.Bool.{cases_lt, and_parts, cond-true}
 use Rattle.std.specs.List.{list_all}
 use Rattle.om_asm.specs.Numerals.{is_digit, digit_of, value_behind}
 

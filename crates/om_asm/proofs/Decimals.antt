@@ -1,15 +1,14 @@
 -- Decimal numbers: digits without leading zeros are what is printed of their value.
-use Rattle.std.proofs.Common.{◌≡◌, ◌⊎◌, inl, inr, ℕ, zero, suc, ◌+◌, ◌-◌, ◌*◌, ◌^◌, ◌<◌, ◌≤◌, ◌==◌, ◌&&◌, ◌||◌, Bool, true, false, not, cond, nat_lt, nat_le, List, [], ◌∷◌, ◌++◌, length, get_or, Option, Some, None, refl, ap, sym, subst, ◌∙◌, arith, rules, ℤ, pos, negsuc, lit<}
-use Rattle.std.specs.Prelude.{option_map, option_and_then, decimal, codes}
+use Rattle.std.proofs.Common.{◌≡◌, ◌⊎◌, inl, inr, ℕ, zero, suc, ◌+◌, ◌-◌, ◌*◌, ◌^◌, ◌<◌, ◌==◌, ◌&&◌, ◌||◌, Bool, true, false, not, nat_lt, nat_le, List, [], ◌∷◌, length, get_or, Option, Some, None, refl, ap, sym, subst, ◌∙◌, arith, ℤ, pos, negsuc, lit<}
+use Rattle.std.specs.Prelude.{option_and_then, decimal}
 use Rattle.std.specs.Fmt.{signed_decimal}
 use Rattle.std.specs.List.{list_all}
 use Rattle.std.specs.Int.{IsInRange}
-use Rattle.std.proofs.lemmas.Bool.{eqb-true, eqb-false, eq-eqb, ne_eqb, lt-ltb, ltb-true, leb-true, le-leb, and_parts, and_from, or_cases, or_left, or_right, not-true, not_from_false, cond-true, cond-false}
-use Rattle.std.proofs.lemmas.Bool.Decides.{nat_tests}
+use Rattle.std.proofs.lemmas.Bool.{eqb-true, eq-eqb, ne_eqb, lt-ltb, ltb-true, leb-true, le-leb, and_parts, and_from, or_cases, or_left, not-true, not_from_false, cond-true}
 use Rattle.std.proofs.lemmas.Str.Parse.{IsNumeralModel, IsDigitsTest, FoldsDigits, numerals_by_fold}
 use Rattle.std.proofs.lemmas.Fmt.{digits_decimal, digits_value-decimal, decimal-digits_value, decimal_nonempty, first_decimal, decimal_digit}
 use Rattle.om_listing.specs.Texts.{register_text}
-use Rattle.om_isa.proofs.Found.{map_some, then_some, if_some}
+use Rattle.om_isa.proofs.Found.{then_some, if_some}
 use Rattle.om_asm.specs.Numerals.{is_digit, digit_of, value_behind, Numeral, magnitude, signed, numeral_text, are_digits, begins_zero, is_plain_digits, is_plain, is_sized}
 use Rattle.om_asm.specs.Statements.{is_between}
 use Rattle.om_asm.specs.Reading.{behind, register_of, register_at, decimal as plain, if_plain, decimal_by, decimal_at}

@@ -1,7 +1,6 @@
 -- Texts of instructions, as they are spelled: what is read is spelled so, and what is spelled so is read.
-use Rattle.std.proofs.Common.{◌≡◌, ℕ, zero, suc, ◌+◌, ◌^◌, ◌<◌, ◌≤◌, ◌==◌, ◌&&◌, Bool, true, false, not, cond, nat_lt, nat_le, List, [], ◌∷◌, ◌++◌, Option, Some, None, refl, ap, sym, subst, ◌∙◌, arith, append_assoc, append-nil, ℤ, pos, negsuc, lit<}
+use Rattle.std.proofs.Common.{◌≡◌, ℕ, zero, ◌+◌, ◌<◌, ◌==◌, ◌&&◌, Bool, true, false, cond, nat_lt, List, ◌∷◌, ◌++◌, Option, Some, None, refl, ap, sym, subst, ◌∙◌, arith, append_assoc, ℤ, pos, negsuc, lit<}
 use Rattle.std.specs.Prelude.{option_map, option_and_then, codes, decimal}
-use Rattle.std.specs.Fmt.{signed_decimal}
 use Rattle.std.proofs.lemmas.Bool.{and_parts, and_from, cond-true, cond-false, eqb-true, eq-eqb, not_from_false, not-true, leb-true, ltb-true, lt-ltb}
 use Rattle.std.proofs.lemmas.Option.{same_Some}
 use Rattle.om_alpha.specs.declared.op.AluOp.{AluOp}
@@ -17,16 +16,16 @@ use Rattle.om_isa.specs.declared.instr.MiscOp.TheVariants as misc
 use Rattle.om_isa.specs.declared.instr.Opnd.{Opnd}
 use Rattle.om_isa.specs.declared.instr.Opnd.TheVariants.{R, Lit as Literal}
 use Rattle.om_isa.proofs.Found.{map_some, then_some}
-use Rattle.om_listing.specs.Names.{memory_name, branch_name, jump_name, operate_name, move_name}
+use Rattle.om_listing.specs.Names.{memory_name, branch_name, operate_name, move_name}
 use Rattle.om_listing.specs.Texts.{register_text, operand_text, based_text, address_text, first_text, result_text, operate_start, instr_text}
 use Rattle.om_asm.specs.declared.forms.Form.{Form}
 use Rattle.om_asm.specs.declared.forms.Form.TheVariants.{Memory, Jump, Branch, Operate, Move, Barrier, Fnop, Halt, Callsys}
 use Rattle.om_asm.specs.Numerals.{Numeral, magnitude, signed, numeral_text, is_plain, is_sized}
 use Rattle.om_asm.specs.Statements.{Statement, Does, Unfit, text_with, literal_text, statement_text, is_spelled, has_register, hidden_ra, jump_hint, is_between, operand_fits, fits, fits_with, has_zero, is_zero, is_zero_literal, is_statement}
 use Rattle.om_asm.specs.Forms.{form_name, form_of}
-use Rattle.om_asm.specs.Reading.{cut_at, both, register_at, decimal_at, base_at}
-use Rattle.om_asm.proofs.Pieces.{Reads, is_clear, cut_found, cut_sound}
-use Rattle.om_asm.proofs.Decimals.{numeral_of, IsNumeralOf, numeral_is, literal_is, plain_printed, plain_size, between_sized, decimal_value, reads_decimal}
+use Rattle.om_asm.specs.Reading.{cut_at, decimal_at, base_at}
+use Rattle.om_asm.proofs.Pieces.{Reads, cut_found, cut_sound}
+use Rattle.om_asm.proofs.Decimals.{numeral_of, numeral_is, literal_is, plain_printed, plain_size, between_sized, decimal_value, reads_decimal}
 use Rattle.om_asm.proofs.Pairs.{is_reg, closed_text, reads_base, place_at, place_text, is_place, reads_place, Second, InRegister, Literally, second_text, last_at, last_text, is_last, is_second, reads_last, first_at, behind_first, reads_first}
 use Rattle.om_asm.proofs.Named.{name_read, name_clear, name_is}
 

@@ -1,9 +1,9 @@
 -- What the code keeps of a text that is an instruction; and the laws of reading one.
-use Rattle.std.proofs.Common.{◌≡◌, ◌⊎◌, inl, inr, ℕ, zero, suc, ◌+◌, ◌^◌, ◌<◌, ◌≤◌, ◌==◌, ◌&&◌, min, Bool, true, false, not, cond, nat_lt, nat_le, List, [], ◌∷◌, ◌++◌, Option, Some, None, refl, ap, sym, subst, ◌∙◌, arith, ℤ, pos, negsuc, lit<}
+use Rattle.std.proofs.Common.{◌≡◌, ◌⊎◌, inl, inr, ℕ, ◌^◌, ◌<◌, ◌≤◌, ◌==◌, ◌&&◌, min, Bool, true, false, cond, nat_lt, nat_le, List, Option, Some, None, refl, ap, sym, ◌∙◌, arith, ℤ, pos, negsuc, lit<}
 use Rattle.std.specs.Prelude.{option_map, option_and_then, FitsSigned}
 use Rattle.std.specs.Int.{w16}
 use Rattle.std.proofs.lemmas.Int.{ints}
-use Rattle.std.proofs.lemmas.Bool.{and_parts, and_from, cond-true, cond-false, eqb-true, eq-eqb, leb-true, leb-false, le-leb, lt-leb, ltb-true, lt-ltb, cases_lt}
+use Rattle.std.proofs.lemmas.Bool.{and_parts, and_from, cond-true, cond-false, eqb-true, eq-eqb, leb-true, le-leb, lt-leb, ltb-true, lt-ltb, cases_lt}
 use Rattle.std.proofs.lemmas.Option.{same_Some}
 use Rattle.om_alpha.specs.declared.op.AluOp.{AluOp}
 use Rattle.om_alpha.specs.declared.op.AluOp.TheVariants.{Sextb, Sextw}
@@ -19,20 +19,18 @@ use Rattle.om_isa.specs.declared.instr.Opnd.TheVariants.{R, Lit}
 use Rattle.om_isa.specs.Fields.{IsDisp}
 use Rattle.om_isa.specs.Words.{IsOperand, IsInstr}
 use Rattle.om_listing.specs.Texts.{instr_text}
-use Rattle.om_asm.specs.declared.numbers.Number.{Number}
-use Rattle.om_asm.specs.declared.operands.Operand.{Operand}
 use Rattle.om_asm.specs.declared.instructions.Said.{Said}
 use Rattle.om_asm.specs.declared.instructions.Said.TheVariants as kept
 use Rattle.om_asm.specs.declared.forms.Form.{Form}
 use Rattle.om_asm.specs.declared.forms.Form.TheVariants.{Memory, Jump, Branch, Operate, Move, Barrier, Fnop, Halt, Callsys}
 use Rattle.om_asm.specs.Numerals.{Numeral, magnitude, signed, is_sized}
-use Rattle.om_asm.specs.Statements.{Statement, Does, Unfit, statement_text, is_spelled, has_register, hidden_ra, jump_hint, is_between, operand_fits, fits, fits_with, is_statement}
+use Rattle.om_asm.specs.Statements.{Statement, Does, Unfit, is_spelled, has_register, hidden_ra, jump_hint, is_between, operand_fits, fits, fits_with}
 use Rattle.om_asm.specs.Forms.{form_of}
-use Rattle.om_asm.specs.Reading.{cut_at, both, register_at, decimal_at, base_at, number_of, number_at, address_at, operand_at, result_at, said, if_sized, opnd_of, memory_made, branch_made, operate_made, move_made, memory_said, jump_said, branch_said, extension_said, three_said, operate_said, move_said, said_with, said_alone, said_by, said_in, answer_of}
-use Rattle.om_asm.specs.Parsing.{IsTextOf, ParsesInstr, usual_ra, usual_of, TextsAreRead}
+use Rattle.om_asm.specs.Reading.{cut_at, both, register_at, decimal_at, base_at, number_of, number_at, address_at, result_at, said, if_sized, opnd_of, memory_made, branch_made, operate_made, move_made, memory_said, jump_said, branch_said, extension_said, three_said, operate_said, move_said, said_with, said_alone, said_by, said_in, answer_of}
+use Rattle.om_asm.specs.Parsing.{IsTextOf, ParsesInstr, usual_of, TextsAreRead}
 use Rattle.om_asm.proofs.Pieces.{both_mapped}
-use Rattle.om_asm.proofs.Pairs.{place_at, Second, InRegister, Literally, last_at, first_at, map_id, map_map, operand_of, address_mapped, number_opened, result_mapped}
-use Rattle.om_asm.proofs.Doing.{Spells, put, numbered, with_second, memory_of, jump_of, branch_of, extension_of, three_of, move_of, operate_with, does_with, does_alone, does_by, does_in, does_sound, does_complete}
+use Rattle.om_asm.proofs.Pairs.{place_at, Second, InRegister, Literally, last_at, first_at, map_id, operand_of, address_mapped, number_opened, result_mapped}
+use Rattle.om_asm.proofs.Doing.{put, numbered, with_second, memory_of, jump_of, branch_of, extension_of, three_of, move_of, operate_with, does_with, does_alone, does_by, does_in, does_sound, does_complete}
 
 -- ---- what is kept of a statement
 

@@ -1,7 +1,6 @@
 -- The names of all forms differ, and none has a space: so a name is read as its form.
-use Rattle.std.proofs.Common.{◌≡◌, ℕ, ◌&&◌, Bool, true, false, not, List, [], ◌∷◌, Option, Some, refl}
-use Rattle.std.specs.Prelude.{bytes_eq, find}
-use Rattle.std.specs.List.{list_any}
+use Rattle.std.proofs.Common.{◌≡◌, ℕ, true, List, Some, refl}
+use Rattle.std.specs.Prelude.{bytes_eq}
 use Rattle.std.proofs.lemmas.Slice.Eq.{bytes_eq-Decides}
 use Rattle.om_alpha.specs.declared.op.Width.TheVariants.{Long}
 use Rattle.om_alpha.specs.declared.op.Scale.TheVariants.{One, Four, Eight}
@@ -9,7 +8,7 @@ use Rattle.om_alpha.specs.declared.op.Cmp.TheVariants as cmp
 use Rattle.om_alpha.specs.declared.op.Cond.TheVariants as cond
 use Rattle.om_alpha.specs.declared.op.Size.TheVariants as size
 use Rattle.om_alpha.specs.declared.op.Wide.TheVariants as wide
-use Rattle.om_alpha.specs.declared.op.AluOp.TheVariants.{Add, Sub, Mul, AddV, SubV, MulV, Compare, And, ExtLow, ExtHigh, InsLow, InsHigh, MskLow, MskHigh}
+use Rattle.om_alpha.specs.declared.op.AluOp.TheVariants.{Add, Sub, Mul, AddV, SubV, MulV, Compare, ExtLow, ExtHigh, InsLow, InsHigh, MskLow, MskHigh}
 use Rattle.om_isa.specs.declared.instr.MemOp.TheVariants as mem
 use Rattle.om_isa.specs.declared.instr.JumpOp.TheVariants as jump
 use Rattle.om_isa.specs.declared.instr.BrOp.TheVariants as br

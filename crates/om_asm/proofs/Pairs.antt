@@ -1,13 +1,12 @@
 -- Operands as they are spelled: how they are read.
-use Rattle.std.proofs.Common.{◌≡◌, ℕ, ◌&&◌, Bool, true, false, List, [], ◌∷◌, ◌++◌, Option, Some, None, refl, ap, sym, subst, ◌∙◌, nat_lt}
-use Rattle.std.specs.Prelude.{option_map, option_and_then}
+use Rattle.std.proofs.Common.{◌≡◌, ℕ, ◌&&◌, Bool, true, List, [], ◌∷◌, ◌++◌, Option, Some, None, refl, ap, sym, subst, ◌∙◌, nat_lt}
+use Rattle.std.specs.Prelude.{option_map}
 use Rattle.om_listing.specs.Texts.{register_text}
 use Rattle.om_isa.proofs.Found.{map_some}
 use Rattle.om_asm.specs.declared.operands.Operand.{Operand}
 use Rattle.om_asm.specs.declared.operands.Operand.TheVariants.{Register, Literal}
-use Rattle.om_asm.specs.declared.numbers.Number.{Number}
 use Rattle.om_asm.specs.Numerals.{Numeral, numeral_text, is_plain}
-use Rattle.om_asm.specs.Reading.{behind, both, ended, register_at, decimal_at, number_of, number_at, closed_at, base_at, address_at, operand_by, operand_at, result_at}
+use Rattle.om_asm.specs.Reading.{behind, both, register_at, decimal_at, number_of, number_at, closed_at, base_at, address_at, operand_by, operand_at, result_at}
 use Rattle.om_asm.proofs.Pieces.{Reads, is_clear, reads_both, reads_ended, reads_behind, behind_sound, behind_found, both_mapped}
 use Rattle.om_asm.proofs.Decimals.{reads_register, register_clear, reads_decimal, decimal_clear}
 

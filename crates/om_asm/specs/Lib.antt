@@ -5,3 +5,4 @@ pub mod Lines
 pub mod Parsing
 pub mod Forms
 pub mod Reading
+pub mod Rows

@@ -1,5 +1,5 @@
 -- The lines of a text, as they are spelled. A line is wrong by grammar where it has none of these spellings.
-use Rattle.std.specs.Prelude.{◌≡◌, ℕ, Bool, true, ◌&&◌, ◌||◌, ◌==◌, List, [], ◌∷◌, ◌++◌, map, flat_map, codes, Option, Some, None}
+use Rattle.std.specs.Prelude.{◌≡◌, ℕ, Bool, true, ◌&&◌, ◌||◌, ◌==◌, List, [], ◌++◌, map, flat_map, codes, Option, Some, None}
 use Rattle.std.specs.List.{list_all, slice_split}
 use Rattle.om_asm.specs.Names.{Name, is_name}
 use Rattle.om_asm.specs.Statements.{Statement, statement_text, is_statement}

@@ -1,5 +1,5 @@
 -- Names in a text: 1 to 255 letters, digits, `_` and `$`, of which the first is a letter or `_`, and which are no register.
-use Rattle.std.specs.Prelude.{ℕ, ◌+◌, ◌==◌, Bool, true, false, not, ◌&&◌, ◌||◌, nat_lt, nat_le, List, [], ◌∷◌, length, bytes_eq}
+use Rattle.std.specs.Prelude.{ℕ, ◌==◌, Bool, false, not, ◌&&◌, ◌||◌, nat_lt, nat_le, List, [], ◌∷◌, length, bytes_eq}
 use Rattle.std.specs.List.{list_all, list_any}
 use Rattle.om_fields.specs.Places.{each}
 use Rattle.om_listing.specs.Texts.{register_text}

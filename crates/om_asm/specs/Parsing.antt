@@ -3,7 +3,7 @@ use Rattle.std.specs.Prelude.{◌≡◌, ℕ, true, List, Option, Some, None}
 use Rattle.om_alpha.specs.declared.op.AluOp.{AluOp}
 use Rattle.om_alpha.specs.declared.op.AluOp.TheVariants.{Sextb, Sextw}
 use Rattle.om_isa.specs.declared.instr.Instr.{Instr}
-use Rattle.om_isa.specs.declared.instr.Instr.TheVariants.{Mem, Jump, Branch, Alu, Cmov, Misc, Fnop, Halt, Callsys}
+use Rattle.om_isa.specs.declared.instr.Instr.TheVariants.{Jump, Alu, Misc}
 use Rattle.om_isa.specs.Words.{IsInstr}
 use Rattle.om_listing.specs.Texts.{instr_text}
 use Rattle.om_asm.specs.Statements.{is_spelled, jump_hint}

@@ -1,5 +1,5 @@
 -- How an instruction is read: a text is cut at separators, and each piece is read as a whole.
-use Rattle.std.specs.Prelude.{ℕ, zero, suc, ◌+◌, ◌^◌, ◌==◌, min, ℤ, pos, Bool, true, false, not, ◌&&◌, nat_lt, nat_le, if◌then◌else◌, List, [], ◌∷◌, length, take, drop, position, Option, Some, None, option_map, option_and_then}
+use Rattle.std.specs.Prelude.{ℕ, ◌+◌, ◌^◌, ◌==◌, min, Bool, true, false, ◌&&◌, nat_lt, if◌then◌else◌, List, [], ◌∷◌, take, drop, position, Option, Some, None, option_map, option_and_then}
 use Rattle.om_alpha.specs.declared.op.AluOp.{AluOp}
 use Rattle.om_alpha.specs.declared.op.AluOp.TheVariants.{Sextb, Sextw}
 use Rattle.om_alpha.specs.declared.op.Cond.{Cond}

@@ -4,7 +4,7 @@ use Rattle.std.specs.List.{list_any}
 use Rattle.om_alpha.specs.declared.op.AluOp.{AluOp}
 use Rattle.om_alpha.specs.declared.op.AluOp.TheVariants.{Sextb, Sextw}
 use Rattle.om_isa.specs.declared.instr.Instr.{Instr}
-use Rattle.om_isa.specs.declared.instr.Instr.TheVariants.{Mem, Jump, Branch, Alu, Cmov, Misc, Fnop, Halt, Callsys}
+use Rattle.om_isa.specs.declared.instr.Instr.TheVariants.{Mem, Jump, Branch, Alu, Cmov, Misc}
 use Rattle.om_isa.specs.declared.instr.BrOp.{BrOp}
 use Rattle.om_isa.specs.declared.instr.JumpOp.{JumpOp}
 use Rattle.om_isa.specs.declared.instr.JumpOp.TheVariants.{Ret}
