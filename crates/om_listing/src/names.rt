@@ -6,6 +6,7 @@ ghost use Rattle.om_alpha.specs.declared.op.AluOp.TheVariants.{Add, Sub, Mul, Ad
 use om_alpha::{AluOp, Cmp, Cond, Scale, Size, Wide, Width};
 use om_isa::{BrOp, JumpOp, MemOp, MiscOp};
 
+/// The name of a memory operation, in lower case as all of these (Alpha Architecture Handbook, chapter 4).
 pub fn memory(op: MemOp) -> &'static [u8]
     ensures name { result.now ≡ memory_name op }
     ensures short { length result.now ≤ 13 }
@@ -26,6 +27,7 @@ pub fn memory(op: MemOp) -> &'static [u8]
     }
 }
 
+/// The name of a branch.
 pub fn branch(op: BrOp) -> &'static [u8]
     ensures name { result.now ≡ branch_name op }
     ensures short { length result.now ≤ 13 }
@@ -44,6 +46,7 @@ pub fn branch(op: BrOp) -> &'static [u8]
     }
 }
 
+/// The name of a jump.
 pub fn jump(kind: JumpOp) -> &'static [u8]
     ensures name { result.now ≡ jump_name kind }
     ensures short { length result.now ≤ 13 }
@@ -56,6 +59,7 @@ pub fn jump(kind: JumpOp) -> &'static [u8]
     }
 }
 
+/// The name of a barrier.
 pub fn barrier(op: MiscOp) -> &'static [u8]
     ensures name { result.now ≡ barrier_name op }
     ensures short { length result.now ≤ 13 }
@@ -68,6 +72,7 @@ pub fn barrier(op: MiscOp) -> &'static [u8]
     }
 }
 
+/// The name of a conditional move.
 pub fn conditional_move(cond: Cond) -> &'static [u8]
     ensures name { result.now ≡ move_name cond }
     ensures short { length result.now ≤ 13 }
@@ -194,6 +199,7 @@ fn mask_high(size: Wide) -> &'static [u8]
     }
 }
 
+/// The name of an operation of the operate format.
 pub fn operate(op: AluOp) -> &'static [u8]
     ensures name { result.now ≡ operate_name op }
     ensures short { length result.now ≤ 13 }
