@@ -6,7 +6,7 @@ import os
 import sys
 
 sys.dont_write_bytecode = True
-sys.path.insert(0, os.path.join(os.path.dirname(os.path.abspath(__file__)), "../crates/om_rows_commands/objects"))
+sys.path.insert(0, os.path.join(os.path.dirname(os.path.abspath(__file__)), "../../crates/om_rows_commands/objects"))
 from generate import Object, image  # noqa: E402
 
 LOOP = """
