@@ -3,7 +3,7 @@
 
 mod lines;
 mod listing;
-mod names;
+pub mod names;
 mod page;
 mod sending;
 mod texts;

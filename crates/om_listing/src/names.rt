@@ -6,7 +6,8 @@ ghost use Rattle.om_alpha.specs.declared.op.AluOp.TheVariants.{Add, Sub, Mul, Ad
 use om_alpha::{AluOp, Cmp, Cond, Scale, Size, Wide, Width};
 use om_isa::{BrOp, JumpOp, MemOp, MiscOp};
 
-pub(crate) fn memory(op: MemOp) -> &'static [u8]
+/// The name of a memory operation, in lower case as all of these (Alpha Architecture Handbook, chapter 4).
+pub fn memory(op: MemOp) -> &'static [u8]
     ensures name { result.now ≡ memory_name op }
     ensures short { length result.now ≤ 13 }
 {
@@ -26,7 +27,8 @@ pub(crate) fn memory(op: MemOp) -> &'static [u8]
     }
 }
 
-pub(crate) fn branch(op: BrOp) -> &'static [u8]
+/// The name of a branch.
+pub fn branch(op: BrOp) -> &'static [u8]
     ensures name { result.now ≡ branch_name op }
     ensures short { length result.now ≤ 13 }
 {
@@ -44,7 +46,8 @@ pub(crate) fn branch(op: BrOp) -> &'static [u8]
     }
 }
 
-pub(crate) fn jump(kind: JumpOp) -> &'static [u8]
+/// The name of a jump.
+pub fn jump(kind: JumpOp) -> &'static [u8]
     ensures name { result.now ≡ jump_name kind }
     ensures short { length result.now ≤ 13 }
 {
@@ -56,7 +59,8 @@ pub(crate) fn jump(kind: JumpOp) -> &'static [u8]
     }
 }
 
-pub(crate) fn barrier(op: MiscOp) -> &'static [u8]
+/// The name of a barrier.
+pub fn barrier(op: MiscOp) -> &'static [u8]
     ensures name { result.now ≡ barrier_name op }
     ensures short { length result.now ≤ 13 }
 {
@@ -68,7 +72,8 @@ pub(crate) fn barrier(op: MiscOp) -> &'static [u8]
     }
 }
 
-pub(crate) fn conditional_move(cond: Cond) -> &'static [u8]
+/// The name of a conditional move.
+pub fn conditional_move(cond: Cond) -> &'static [u8]
     ensures name { result.now ≡ move_name cond }
     ensures short { length result.now ≤ 13 }
 {
@@ -194,7 +199,8 @@ fn mask_high(size: Wide) -> &'static [u8]
     }
 }
 
-pub(crate) fn operate(op: AluOp) -> &'static [u8]
+/// The name of an operation of the operate format.
+pub fn operate(op: AluOp) -> &'static [u8]
     ensures name { result.now ≡ operate_name op }
     ensures short { length result.now ≤ 13 }
 {
