@@ -1,8 +1,8 @@
--- The new parts of the touched blocks, and the uses with them.
-use Rattle.std.proofs.Common.{◌≡◌, ◌⊎◌, inl, inr, ℕ, zero, suc, ◌+◌, ◌<◌, ◌≤◌, Bool, true, false, cond, List, [], ◌∷◌, ◌++◌, length, get_or, take, Option, Some, None, refl, sym, ap, subst, ◌∙◌, arith}
+-- The touched blocks, and the uses with them.
+use Rattle.std.proofs.Common.{◌≡◌, ◌⊎◌, inl, inr, ℕ, zero, suc, ◌+◌, ◌<◌, ◌≤◌, Bool, true, false, cond, List, [], ◌∷◌, ◌++◌, length, get_or, Option, Some, None, refl, sym, ap, subst, ◌∙◌, arith}
 use Rattle.std.specs.Prelude.{find, option_map}
 use Rattle.std.proofs.lemmas.Bool.{cases_eq, true≢false}
-use Rattle.std.proofs.lemmas.List.{get_or-set_other, length_push, take_more}
+use Rattle.std.proofs.lemmas.List.{get_or-set_other, get_or_append_left, length_push}
 use Rattle.om_value.specs.declared.value.Place.{Place}
 use Rattle.om_value.specs.Same.{place_eq}
 use Rattle.om_graph.specs.View.{Block, GraphView, Has, InPlaceOrder, place_lt, has_label, labelled, is_live_block, block_of, next_touched_of, cleared}
@@ -10,13 +10,15 @@ use Rattle.om_graph.specs.Held.{IsGraph}
 use Rattle.om_graph.specs.Numbers.{number_from, number_of, AreNumbered}
 use Rattle.om_graph.proofs.Labels.{same_place, self_eq}
 use Rattle.om_graph.proofs.RowLabels.{not_itself, before_not_behind, before_differs}
-use Rattle.om_blocks.proofs.Walking.{assoc, no_more, has_mid}
-use Rattle.om_uses.specs.declared.scans.OpMasks.{OpMasks}
-use Rattle.om_uses.specs.Parts.{Part, Kept, nothing, nowhere, part_at, part_of, IsRight, IsAt, IsUsesOf, IsNearly}
-use Rattle.om_uses.specs.Tables.{IsLonger, AreWithin}
-use Rattle.om_uses.specs.Installed.{Fresh, with_part, installed, HasRoom, HaveRoom, IsRoomier, HasNumber, numbers, AreRight, AreCovered}
-use Rattle.om_uses.specs.Results.{IsFreshOf, IsAddedFor, with_fresh}
-use Rattle.om_uses.proofs.Spots.{Numbered, NoneNumbered, numbered_or_none, right_of, with_part_at, roomier_at, installed_at}
+use Rattle.om_blocks.proofs.Walking.{assoc, no_more, has_mid, found_here}
+use Rattle.om_uses.specs.declared.tables.BlockUses.{BlockUses}
+use Rattle.om_uses.specs.declared.uses.Fresh.{Fresh}
+use Rattle.om_uses.specs.declared.uses.Fresh.TheVariants.{Stays, Gone}
+use Rattle.om_uses.specs.Parts.{Kept, IsAt, IsUsesOf, IsNearly, block_at, block_uses, no_block}
+use Rattle.om_uses.specs.Tables.{IsLonger, IsPadded}
+use Rattle.om_uses.specs.Installed.{with_block, installed, HasRoom, HasRoomFor, HaveRoom, IsRoomier, HasNumber, numbers, number_in, AreCovered}
+use Rattle.om_uses.specs.Results.{IsFreshOf, IsAddedFor, with_one}
+use Rattle.om_uses.proofs.Links.{Numbered, NoneNumbered, numbered_or_none, room_longer, with_block_at, roomier_at, installed_at}
 
 -- ---- the number of a label
 
@@ -65,19 +67,14 @@ none_labelled q (c ∷ bs) b e h s = by_test (place_eq c.label q) refl e h (λ f
         true≢false (sym l ∙ t)
     by_test false t f (inr i) again = again f i
 
-module _ (g : GraphView) (graph : IsGraph g) (numbered : AreNumbered g) where
-  pub labelled_right : (q : Place) (n b : ℕ) (p : Part) → number_of g q ≡ Some n → labelled g q ≡ Some b → is_live_block g b ≡ true → ((x : Block) → block_of g b ≡ Some x → p ≡ part_of x) → IsRight g n p
-  labelled_right q n b p e l live is =
+module _ (g : GraphView) (numbered : AreNumbered g) where
+  pub labelled_number : (q : Place) (b : ℕ) → labelled g q ≡ Some b → number_of g q ≡ Some b
+  labelled_number q b l =
       let x = labelled_in q b g.blocks l in
-      let k : Some x.0.id ≡ Some n = sym (numbered x.0 x.1) ∙ ap (number_of g) x.2 ∙ e in
-      let same : b ≡ n = sym x.3 ∙ (let s : x.0.id ≡ n = cc in s) in
-      subst (λ (i : ℕ). IsRight g i p) same (right_of g graph b p live is)
+      ap (number_of g) (sym x.2) ∙ numbered x.0 x.1 ∙ ap (λ (i : ℕ). Some i) x.3
 
-  pub dropped_right : (q : Place) (n : ℕ) (p : Part) → number_of g q ≡ Some n → labelled g q ≡ None → p ≡ nothing → IsRight g n p
-  dropped_right q n p e l is = record {
-    kept = λ b h s. absurd (none_labelled q g.blocks b l h (same_number 0 n b.label q g.labels (numbered b h ∙ ap (λ (i : ℕ). Some i) s) e));
-    gone = λ none. is;
-  }
+  pub dropped_none : (q : Place) (n : ℕ) → number_of g q ≡ Some n → labelled g q ≡ None → NoneNumbered g.blocks n
+  dropped_none q n e l b h s = none_labelled q g.blocks b l h (same_number 0 n b.label q g.labels (numbered b h ∙ ap (λ (i : ℕ). Some i) s) e)
 
 -- ---- the walk over the touched labels
 
@@ -98,7 +95,6 @@ pub record OnTouched (g : GraphView) (next : Option Place) (fs : List Fresh) : T
   pub left : List Place
   pub split : g.touched ≡ done ++ left
   pub at : next ≡ first_place left
-  pub right : AreRight g fs
   pub covered : AreCovered g done fs
 
 find_all : (qs : List Place) → find (λ q. true) qs ≡ first_place qs
@@ -146,7 +142,6 @@ module _ (g : GraphView) (graph : IsGraph g) where
     left = g.touched;
     split = refl;
     at = e ∙ find_all g.touched;
-    right = λ f h. absurd h;
     covered = λ q i h e. absurd h;
   }
 
@@ -193,9 +188,9 @@ module _ (g : GraphView) (graph : IsGraph g) where
   has_end (z ∷ xs) x ys (inl e) = inl e
   has_end (z ∷ xs) x ys (inr h) = inr (has_end xs x ys h)
 
-  numbers_added : (fs : List Fresh) (f : Fresh) → numbers (fs ++ f ∷ []) ≡ numbers fs ++ f.number ∷ []
+  numbers_added : (fs : List Fresh) (f : Fresh) → numbers (fs ++ f ∷ []) ≡ numbers fs ++ number_in f ∷ []
   numbers_added [] f = refl
-  numbers_added (x ∷ fs) f = ap (λ l. x.number ∷ l) (numbers_added fs f)
+  numbers_added (x ∷ fs) f = ap (λ l. number_in x ∷ l) (numbers_added fs f)
 
   parted : {A : Type 0} (xs : List A) (y x : A) → Has (xs ++ y ∷ []) x → Has xs x ⊎ (y ≡ x)
   parted [] y x (inl e) = inr e
@@ -208,7 +203,7 @@ module _ (g : GraphView) (graph : IsGraph g) where
       by_part (inr e) = inr e
 
   -- behind a label that has no number
-  pub touched_none : (p : Place) (next : Option Place) (fs : List Fresh) → OnTouched g (Some p) fs → IsFreshOf g p None → next ≡ next_touched_of g.touched (Some p) → OnTouched g next fs
+  touched_none : (p : Place) (next : Option Place) (fs : List Fresh) → OnTouched g (Some p) fs → number_of g p ≡ None → next ≡ next_touched_of g.touched (Some p) → OnTouched g next fs
   touched_none p next fs on none n =
       let it = next_touched_is p fs on in
       record {
@@ -216,7 +211,6 @@ module _ (g : GraphView) (graph : IsGraph g) where
         left = it.rest;
         split = it.split ∙ sym (assoc on.done (p ∷ []) it.rest);
         at = n ∙ it.after;
-        right = on.right;
         covered = λ q i h e. by_part q i e (parted on.done p q h);
       }
     where
@@ -224,45 +218,62 @@ module _ (g : GraphView) (graph : IsGraph g) where
       by_part q i e (inl h) = on.covered q i h e
       by_part q i e (inr s) = let k : number_of g p ≡ Some i = ap (number_of g) s ∙ e in cc
 
-  pub touched_more : (p : Place) (next : Option Place) (fs : List Fresh) (f : Fresh) → OnTouched g (Some p) fs → IsFreshOf g p (Some f) → next ≡ next_touched_of g.touched (Some p) → OnTouched g next (fs ++ f ∷ [])
-  touched_more p next fs f on fresh n =
+  touched_more : (p : Place) (next : Option Place) (fs : List Fresh) (f : Fresh) → OnTouched g (Some p) fs → number_of g p ≡ Some (number_in f) → next ≡ next_touched_of g.touched (Some p) → OnTouched g next (fs ++ f ∷ [])
+  touched_more p next fs f on number n =
       let it = next_touched_is p fs on in
       record {
         done = on.done ++ p ∷ [];
         left = it.rest;
         split = it.split ∙ sym (assoc on.done (p ∷ []) it.rest);
         at = n ∙ it.after;
-        right = λ x h. by_fresh x (parted fs f x h);
         covered = λ q i h e. subst (λ l. Has l i) (sym (numbers_added fs f)) (by_part q i e (parted on.done p q h));
       }
     where
-      by_fresh : (x : Fresh) → Has fs x ⊎ (f ≡ x) → IsRight g x.number x.part
-      by_fresh x (inl h) = on.right x h
-      by_fresh x (inr e) = subst (λ (y : Fresh). IsRight g y.number y.part) e fresh.1
-
       last_has : (xs : List ℕ) (x : ℕ) → Has (xs ++ x ∷ []) x
       last_has [] x = inl refl
       last_has (z ∷ xs) x = inr (last_has xs x)
 
-      by_part : (q : Place) (i : ℕ) → number_of g q ≡ Some i → Has on.done q ⊎ (p ≡ q) → Has (numbers fs ++ f.number ∷ []) i
-      by_part q i e (inl h) = has_end (numbers fs) i (f.number ∷ []) (on.covered q i h e)
+      same : (a b : ℕ) → Some a ≡ Some b → a ≡ b
+      same a b e = cc
+
+      by_part : (q : Place) (i : ℕ) → number_of g q ≡ Some i → Has on.done q ⊎ (p ≡ q) → Has (numbers fs ++ number_in f ∷ []) i
+      by_part q i e (inl h) = has_end (numbers fs) i (number_in f ∷ []) (on.covered q i h e)
       by_part q i e (inr s) =
-          let k : number_of g p ≡ Some i = ap (number_of g) s ∙ e in
-          let j = fresh.0 in
-          let same : f.number ≡ i = cc in
-          subst (λ (m : ℕ). Has (numbers fs ++ f.number ∷ []) m) same (last_has (numbers fs) f.number)
+          subst (λ (m : ℕ). Has (numbers fs ++ number_in f ∷ []) m) (same (number_in f) i (sym number ∙ ap (number_of g) s ∙ e)) (last_has (numbers fs) (number_in f))
 
-  pub touched_added : (p : Place) (next : Option Place) (old new : List Fresh) → OnTouched g (Some p) old → IsAddedFor g p old new → next ≡ next_touched_of g.touched (Some p) → OnTouched g next new
-  touched_added p next old new on added n = by_fresh added.fresh added.is added.added
+  pub touched_added : (u : Kept) (p : Place) (next : Option Place) (old new : List Fresh) → OnTouched g (Some p) old → IsAddedFor g u p old new → next ≡ next_touched_of g.touched (Some p) → OnTouched g next new
+  touched_added u p next old new on added n = by_fresh added.fresh added.is added.added
     where
-      by_fresh : (f : Option Fresh) → IsFreshOf g p f → new ≡ with_fresh f old → OnTouched g next new
+      by_fresh : (f : Option Fresh) → IsFreshOf g u p f → new ≡ with_one f old → OnTouched g next new
       by_fresh None is e = subst (λ (l : List Fresh). OnTouched g next l) (sym e) (touched_none p next old on is n)
-      by_fresh (Some f) is e = subst (λ (l : List Fresh). OnTouched g next l) (sym e) (touched_more p next old f on is n)
+      by_fresh (Some f) is e = subst (λ (l : List Fresh). OnTouched g next l) (sym e) (touched_more p next old f on is.0 n)
 
-  pub touched_end : (fs : List Fresh) → OnTouched g None fs → AreRight g fs × AreCovered g g.touched fs
+  pub touched_end : (fs : List Fresh) → OnTouched g None fs → AreCovered g g.touched fs
   touched_end fs on =
       let all : g.touched ≡ on.done = on.split ∙ ap (λ (l : List Place). on.done ++ l) (none_first on.left on.at) ∙ no_more on.done in
-      (on.right, subst (λ (l : List Place). AreCovered g l fs) (sym all) on.covered)
+      subst (λ (l : List Place). AreCovered g l fs) (sym all) on.covered
+
+-- ---- room for them
+
+module _ (g : GraphView) where
+  fresh_longer : (u v : Kept) (f : Fresh) → IsRoomier u v → HasRoomFor g u f → HasRoomFor g v f
+  fresh_longer u v (Stays i start) r room = (room.0, record { of = λ b e. room_longer u v i b start r (room.1.of b e) })
+  fresh_longer u v (Gone i) r room = ((let n = room.0 in let long = r.blocks.long in omega (arith, n, long)), room.1)
+
+  have_longer : (u v : Kept) (fs : List Fresh) → IsRoomier u v → HaveRoom g u fs → HaveRoom g v fs
+  have_longer u v [] r room = tt
+  have_longer u v (f ∷ fs) r room = (fresh_longer u v f r room.0, have_longer u v fs r room.1)
+
+  have_both : (u : Kept) (fs : List Fresh) (f : Fresh) → HaveRoom g u fs → HasRoomFor g u f → HaveRoom g u (fs ++ f ∷ [])
+  have_both u [] f room one = (one, tt)
+  have_both u (x ∷ fs) f room one = (room.0, have_both u fs f room.1 one)
+
+  pub have_added : (u v : Kept) (p : Place) (old new : List Fresh) → IsRoomier u v → HaveRoom g u old → IsAddedFor g v p old new → HaveRoom g v new
+  have_added u v p old new r room added = by_fresh added.fresh added.is added.added
+    where
+      by_fresh : (f : Option Fresh) → IsFreshOf g v p f → new ≡ with_one f old → HaveRoom g v new
+      by_fresh None is e = subst (λ (l : List Fresh). HaveRoom g v l) (sym e) (have_longer u v old r room)
+      by_fresh (Some f) is e = subst (λ (l : List Fresh). HaveRoom g v l) (sym e) (have_both v old f (have_longer u v old r room) is.1)
 
 -- ---- refreshed uses
 
@@ -291,11 +302,11 @@ module _ (g : GraphView) (graph : IsGraph g) where
               some_same a b q = cc
 
   clear_at : (u : Kept) (i : ℕ) → IsAt g u i → IsAt (cleared g) u i
-  clear_at u i at = record { part = record { kept = at.part.kept; gone = at.part.gone }; spots = at.spots }
+  clear_at u i at = record { kept = at.kept; gone = at.gone }
 
-  pub refreshed : (u v : Kept) (fs : List Fresh) → IsNearly g u → IsRoomier u v → AreRight g fs → AreCovered g g.touched fs → HaveRoom v fs → IsUsesOf (cleared g) (installed fs v)
-  refreshed u v fs near roomier right covered room = record {
-    all = λ j. clear_at (installed fs v) j (installed_at g graph fs v j right room (by_touched j (touched_or_not j g.touched)));
+  pub refreshed : (u v : Kept) (fs : List Fresh) → IsNearly g u → IsRoomier u v → AreCovered g g.touched fs → HaveRoom g v fs → IsUsesOf (cleared g) (installed g fs v)
+  refreshed u v fs near roomier covered room = record {
+    all = λ j. clear_at (installed g fs v) j (installed_at g graph fs v j room (by_touched j (touched_or_not j g.touched)));
   }
     where
       by_touched : (j : ℕ) → ((q : Place) × Has g.touched q × (number_of g q ≡ Some j)) ⊎ ((q : Place) → Has g.touched q → number_of g q ≡ Some j → ⊥) → HasNumber fs j ⊎ IsAt g v j
@@ -307,21 +318,24 @@ module _ (g : GraphView) (graph : IsGraph g) where
 -- of these blocks all is kept, and of others nothing
 pub record OfBlocks (g : GraphView) (done : List Block) (u : Kept) : Type 0 where
   pub kept : (b : Block) → Has done b → IsAt g u b.id
-  pub none : (j : ℕ) → NoneNumbered done j → part_at u j ≡ nothing
+  pub none : (j : ℕ) → NoneNumbered done j → block_at u j ≡ no_block
 
 module _ (g : GraphView) (graph : IsGraph g) where
-  pub blocks_none : (u : Kept) → u.parts ≡ [] → OfBlocks g [] u
+  pub blocks_none : (u : Kept) → u.blocks ≡ [] → OfBlocks g [] u
   blocks_none u e = record {
     kept = λ b h. absurd h;
-    none = λ j h. ap (λ (l : List Part). get_or l j nothing) e;
+    none = λ j h. ap (λ (l : List BlockUses). get_or l j no_block) e;
   }
 
-  pub blocks_added : (done : List Block) (x : Block) (i : ℕ) (p : Part) (u v : Kept) → x.id ≡ i → IsRight g i p → IsRoomier u v → HasRoom v i p → OfBlocks g done u → OfBlocks g (done ++ x ∷ []) (with_part v i p)
-  blocks_added done x i p u v e right roomier room of = record {
+  pub blocks_added : (done : List Block) (x : Block) (start : ℕ) (u v : Kept) → Has g.blocks x → IsRoomier u v → HasRoom g v x.id start → OfBlocks g done u → OfBlocks g (done ++ x ∷ []) (with_block v x.id x start)
+  blocks_added done x start u v among roomier room of = record {
     kept = λ b h. by_part b (parted_block done b h);
-    none = λ j no. get_or-set_other v.parts i j p nothing (λ s. no x (last_block done) (e ∙ sym s)) ∙ roomier.parts.same j ∙ of.none j (λ c h. no c (has_more done c h));
+    none = λ j no. get_or-set_other v.blocks x.id j (block_uses x start) no_block (λ s. no x (last_block done) (sym s)) ∙ roomier.blocks.same j ∙ of.none j (λ c h. no c (has_more done c h));
   }
     where
+      found : block_of g x.id ≡ Some x
+      found = (found_here g graph x x.id among refl).0
+
       last_block : (bs : List Block) → Has (bs ++ x ∷ []) x
       last_block [] = inl refl
       last_block (b ∷ bs) = inr (last_block bs)
@@ -341,9 +355,17 @@ module _ (g : GraphView) (graph : IsGraph g) where
           by (inl k) = inl (inr k)
           by (inr s) = inr s
 
-      by_part : (b : Block) → Has done b ⊎ (x ≡ b) → IsAt g (with_part v i p) b.id
-      by_part b (inl h) = with_part_at g graph v i p b.id right room (inr (roomier_at g graph u v b.id roomier (of.kept b h)))
-      by_part b (inr s) = with_part_at g graph v i p b.id right room (inl (ap (λ (y : Block). y.id) (sym s) ∙ e))
+      by_part : (b : Block) → Has done b ⊎ (x ≡ b) → IsAt g (with_block v x.id x start) b.id
+      by_part b (inl h) = with_block_at g graph v x.id x start b.id found (room.of x found) (inr (roomier_at g graph u v b.id roomier (of.kept b h)))
+      by_part b (inr s) = with_block_at g graph v x.id x start b.id found (room.of x found) (inl (ap (λ (y : Block). y.id) (sym s)))
+
+  pub blocks_noted :
+      (done : List Block) (x : Block) (i start : ℕ) (u v w : Kept) → x.id ≡ i → Has g.blocks x → IsRoomier u v → HasRoom g v i start →
+      ((b : Block) → block_of g i ≡ Some b → w ≡ with_block v i b start) → OfBlocks g done u → OfBlocks g (done ++ x ∷ []) w
+  blocks_noted done x i start u v w e among roomier room noted of =
+      subst (λ (k : Kept). OfBlocks g (done ++ x ∷ []) k) (sym (noted x (found_here g graph x i among e).0))
+      (subst (λ (k : ℕ). OfBlocks g (done ++ x ∷ []) (with_block v k x start)) e
+      (blocks_added done x start u v among roomier (subst (λ (k : ℕ). HasRoom g v k start) (sym e) room) of))
 
   pub blocks_all : (u : Kept) → OfBlocks g g.blocks u → IsUsesOf g u
   blocks_all u of = record { all = λ j. by_number j (numbered_or_none g.blocks j) }
@@ -351,20 +373,35 @@ module _ (g : GraphView) (graph : IsGraph g) where
       by_number : (j : ℕ) → Numbered g.blocks j ⊎ NoneNumbered g.blocks j → IsAt g u j
       by_number j (inl k) = subst (λ (i : ℕ). IsAt g u i) k.2 (of.kept k.0 k.1)
       by_number j (inr none) = record {
-        part = record { kept = λ b h e. absurd (none b h e); gone = λ n. of.none j none };
-        spots = λ b h e. absurd (none b h e);
+        kept = λ b h e. absurd (none b h e);
+        gone = λ n. of.none j none;
       }
 
--- ---- room
+-- ---- tables with room for more
 
-pub longer_itself : {X : Type 0} (d : X) (xs : List X) → IsLonger d xs xs
-longer_itself d xs = record { same = λ i. refl; long = omega arith }
+pub longer_itself : {X : Type 0} (xs : List X) → IsLonger xs xs
+longer_itself xs = record { same = λ i d h. refl; long = omega arith }
 
-pub longer_both : {X : Type 0} (d : X) (xs ys zs : List X) → IsLonger d xs ys → IsLonger d ys zs → IsLonger d xs zs
-longer_both d xs ys zs a b = record { same = λ i. b.same i ∙ a.same i; long = omega (arith, a.long, b.long) }
+pub longer_both : {X : Type 0} (xs ys zs : List X) → IsLonger xs ys → IsLonger ys zs → IsLonger xs zs
+longer_both xs ys zs a b = record {
+  same = λ i d h. b.same i d (let long = a.long in omega (arith, h, long)) ∙ a.same i d h;
+  long = omega (arith, a.long, b.long);
+}
 
-pub longer_more : {X : Type 0} (d : X) (xs ys : List X) (y : X) → y ≡ d → IsLonger d xs ys → IsLonger d xs (ys ++ y ∷ [])
-longer_more {X = X} d xs ys y e a = record { same = λ i. added ys i ∙ a.same i; long = omega (arith, a.long, length_push ys y) }
+pub longer_more : {X : Type 0} (xs ys : List X) (y : X) → IsLonger xs ys → IsLonger xs (ys ++ y ∷ [])
+longer_more {X = X} xs ys y a = record {
+  same = λ i d h. get_or_append_left ys (y ∷ []) d i (let long = a.long in omega (arith, h, long)) ∙ a.same i d h;
+  long = omega (arith, a.long, length_push ys y);
+}
+
+pub padded_itself : {X : Type 0} (d : X) (xs : List X) → IsPadded d xs xs
+padded_itself d xs = record { same = λ i. refl; long = omega arith }
+
+pub padded_both : {X : Type 0} (d : X) (xs ys zs : List X) → IsPadded d xs ys → IsPadded d ys zs → IsPadded d xs zs
+padded_both d xs ys zs a b = record { same = λ i. b.same i ∙ a.same i; long = omega (arith, a.long, b.long) }
+
+pub padded_more : {X : Type 0} (d : X) (xs ys : List X) (y : X) → y ≡ d → IsPadded d xs ys → IsPadded d xs (ys ++ y ∷ [])
+padded_more {X = X} d xs ys y e a = record { same = λ i. added ys i ∙ a.same i; long = omega (arith, a.long, length_push ys y) }
   where
     added : (l : List X) (i : ℕ) → get_or (l ++ y ∷ []) i d ≡ get_or l i d
     added [] zero = e
@@ -373,40 +410,11 @@ longer_more {X = X} d xs ys y e a = record { same = λ i. added ys i ∙ a.same 
     added (z ∷ l) (suc i) = added l i
 
 pub roomier_itself : (u : Kept) → IsRoomier u u
-roomier_itself u = record { parts = longer_itself nothing u.parts; spots = longer_itself nowhere u.spots }
+roomier_itself u = record { ops = longer_itself u.ops; blocks = padded_itself no_block u.blocks; loads = longer_itself u.loads }
 
 pub roomier_both : (u v w : Kept) → IsRoomier u v → IsRoomier v w → IsRoomier u w
 roomier_both u v w a b = record {
-  parts = longer_both nothing u.parts v.parts w.parts a.parts b.parts;
-  spots = longer_both nowhere u.spots v.spots w.spots a.spots b.spots;
+  ops = longer_both u.ops v.ops w.ops a.ops b.ops;
+  blocks = padded_both no_block u.blocks v.blocks w.blocks a.blocks b.blocks;
+  loads = longer_both u.loads v.loads w.loads a.loads b.loads;
 }
-
-pub within_longer : (m n : ℕ) (os : List OpMasks) → m ≤ n → AreWithin m os → AreWithin n os
-within_longer m n [] le w = tt
-within_longer m n (o ∷ os) le w = (omega (arith, w.0, le), within_longer m n os le w.1)
-
-pub room_longer : (u v : Kept) (i : ℕ) (p : Part) → IsRoomier u v → HasRoom u i p → HasRoom v i p
-room_longer u v i p r h = record {
-  number = omega (arith, h.number, r.parts.long);
-  ops = within_longer (length u.spots) (length v.spots) p.ops r.spots.long h.ops;
-  small = h.small;
-  few = h.few;
-}
-
-pub within_added : (n i : ℕ) (os : List OpMasks) (o : OpMasks) → i < length os → get_or os i o ≡ o → o.id < n → AreWithin n (take i os) → AreWithin n (take (i + 1) os)
-within_added n i os o h e w before = rw (take_more os i o h, e) (added (take i os) before)
-  where
-    added : (l : List OpMasks) → AreWithin n l → AreWithin n (l ++ o ∷ [])
-    added [] a = (w, tt)
-    added (x ∷ l) a = (a.0, added l a.1)
-
-pub have_room_longer : (u v : Kept) (fs : List Fresh) → IsRoomier u v → HaveRoom u fs → HaveRoom v fs
-have_room_longer u v [] r h = tt
-have_room_longer u v (f ∷ fs) r h = (room_longer u v f.number f.part r h.0, have_room_longer u v fs r h.1)
-
-pub room_added : (u : Kept) (i : ℕ) (fs : List Fresh) (f : Fresh) → i < length fs → get_or fs i f ≡ f → HasRoom u f.number f.part → HaveRoom u (take i fs) → HaveRoom u (take (i + 1) fs)
-room_added u i fs f h e room before = rw (take_more fs i f h, e) (added (take i fs) before)
-  where
-    added : (l : List Fresh) → HaveRoom u l → HaveRoom u (l ++ f ∷ [])
-    added [] a = (room, tt)
-    added (x ∷ l) a = (a.0, added l a.1)

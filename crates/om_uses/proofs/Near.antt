@@ -13,7 +13,7 @@ use Rattle.om_graph.proofs.Labels.{same_place}
 use Rattle.om_blocks.proofs.Walking.{a_some, found_block, not_same}
 use Rattle.om_uses.specs.Parts.{Kept, IsAt, IsUsesOf, IsNearly}
 use Rattle.om_uses.specs.Installed.{IsRoomier}
-use Rattle.om_uses.proofs.Spots.{blocks_apart, id_found, roomier_at}
+use Rattle.om_uses.proofs.Links.{blocks_apart, id_found, roomier_at}
 
 -- ---- marks
 
@@ -120,11 +120,8 @@ near_by g h u x labels more marked number there back near = record { others = λ
     at j untouched =
         let old = near.others j (λ q m e. untouched q (more q m) (labels q ∙ e)) in
         record {
-          part = record {
-            kept = λ b m e. old.part.kept b (back b m (λ s. other (sym e ∙ s))) e;
-            gone = λ none. old.part.gone (λ b m e. none b (there b m (λ s. other (sym e ∙ s))) e);
-          };
-          spots = λ b m e. old.spots b (back b m (λ s. other (sym e ∙ s))) e;
+          kept = λ b m e. old.kept b (back b m (λ s. other (sym e ∙ s))) e;
+          gone = λ none. old.gone (λ b m e. none b (there b m (λ s. other (sym e ∙ s))) e);
         }
       where
         other : j ≡ x.id → ⊥
@@ -219,7 +216,7 @@ pub table_set_near : (g : GraphView) (u : Kept) (obj table : ℕ) → IsNearly g
 table_set_near g u obj table near = record {
   others = λ j untouched.
       let old = near.others j untouched in
-      record { part = record { kept = old.part.kept; gone = old.part.gone }; spots = old.spots };
+      record { kept = old.kept; gone = old.gone };
 }
 
 pub room_near : (g : GraphView) (u v : Kept) → IsGraph g → IsRoomier u v → IsNearly g u → IsNearly g v

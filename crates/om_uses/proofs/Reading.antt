@@ -1,17 +1,15 @@
--- Scans over masks find the readers of a result.
-use Rattle.std.proofs.Common.{◌≡◌, inl, inr, ℕ, suc, ◌+◌, ◌<◌, Bool, true, false, cond, ◌==◌, ◌||◌, List, [], ◌∷◌, ◌++◌, map, drop, length, Some, None, refl, sym, ap, subst, ◌∙◌, arith}
+-- Registers as bits, and what stands behind a reader.
+use Rattle.std.proofs.Common.{◌≡◌, inl, inr, ℕ, ◌<◌, Bool, true, false, cond, ◌==◌, ◌||◌, List, [], ◌∷◌, ◌++◌, Some, None, refl, sym, ap, subst, ◌∙◌, arith}
 use Rattle.std.proofs.lemmas.Bool.{true≢false, eqb-true}
 use Rattle.std.proofs.lemmas.Bool.Decides.{nat_tests}
 use Rattle.om_isa.specs.Registers.{mask_of}
 use Rattle.om_prog.specs.Facts.{has}
 use Rattle.om_graph.specs.View.{Node, Has}
 use Rattle.om_graph.specs.Held.{Apart, node_ids}
-use Rattle.om_blocks.specs.Effects.{kind_reads, kind_writes}
 use Rattle.om_blocks.proofs.Doing.{bit_is}
 use Rattle.om_blocks.proofs.Walking.{not_same}
-use Rattle.om_uses.specs.Scans.{has_bit, first_reader, is_unwritten}
-use Rattle.om_uses.specs.Parts.{masks_of}
-use Rattle.om_uses.specs.Readers.{reads, writes, with_id, readers, is_kept, first_of, behind_id}
+use Rattle.om_uses.specs.Scans.{has_bit}
+use Rattle.om_uses.specs.Readers.{reads, writes, with_id, readers, first_of, behind_id}
 
 pub bit_has : (rs : List ℕ) (r : ℕ) → r < 31 → has_bit (mask_of rs) r ≡ has rs r
 bit_has rs r h = ap (λ (n : ℕ). n == 1) (bit_is rs r h) ∙ flag (has rs r)
@@ -19,28 +17,6 @@ bit_has rs r h = ap (λ (n : ℕ). n == 1) (bit_is rs r h) ∙ flag (has rs r)
     flag : (b : Bool) → (cond b 1 0 == 1) ≡ b
     flag true = refl
     flag false = refl
-
-pub first_is : (r : ℕ) (ns : List Node) → r < 31 → first_reader r (map masks_of ns) ≡ first_of (readers r ns)
-first_is r [] h = refl
-first_is r (n ∷ ns) h =
-    let a = bit_has (kind_reads n.op.kind) r h in
-    let b = bit_has (kind_writes n.op.kind) r h in
-    rw (a, b) (by_reads (reads r n) (by_writes (writes r n) (first_is r ns h)))
-  where
-    by_writes : (w : Bool) → first_reader r (map masks_of ns) ≡ first_of (readers r ns) → cond w None (first_reader r (map masks_of ns)) ≡ first_of (cond w [] (readers r ns))
-    by_writes true e = refl
-    by_writes false e = e
-
-    by_reads : (b : Bool) → cond (writes r n) None (first_reader r (map masks_of ns)) ≡ first_of (cond (writes r n) [] (readers r ns)) → cond b (Some n.id) (cond (writes r n) None (first_reader r (map masks_of ns))) ≡ first_of (with_id b n.id (cond (writes r n) [] (readers r ns)))
-    by_reads true e = refl
-    by_reads false e = e
-
-pub unwritten_is : (r : ℕ) (ns : List Node) → r < 31 → is_unwritten r (map masks_of ns) ≡ is_kept r ns
-unwritten_is r [] h = refl
-unwritten_is r (n ∷ ns) h =
-    let b = bit_has (kind_writes n.op.kind) r h in
-    let e = unwritten_is r ns h in
-    rw (b, e) refl
 
 -- what stands behind a reader
 pub record Reader (r a : ℕ) (ns : List Node) : Type 0 where
@@ -62,7 +38,7 @@ reader_has r a (n ∷ ns) h = by_reads (reads r n) (writes r n) h (reader_has r 
     by_reads false true k again = absurd k
     by_reads false false k again = inr (again k)
 
-same_id : (a : ℕ) → (a == a) ≡ true
+pub same_id : (a : ℕ) → (a == a) ≡ true
 same_id a = eq_true (a == a) refl
   where
     eq_true : (b : Bool) → (a == a) ≡ b → b ≡ true
@@ -97,18 +73,6 @@ reader_at r a (n ∷ ns) ids h = by_reads (reads r n) (writes r n) refl refl h (
     by_reads true false e f (inr k) again = later true f e k (again k)
     by_reads false true e f k again = absurd k
     by_reads false false e f k again = later false f e k (again k)
-
--- ---- a place in a list
-
-pub drop_here : (xs : List Node) (y : Node) (ys : List Node) → drop (length xs) (map masks_of (xs ++ y ∷ ys)) ≡ masks_of y ∷ map masks_of ys
-drop_here [] y ys = refl
-drop_here (x ∷ xs) y ys = drop_here xs y ys
-
-pub drop_behind : (xs : List Node) (y : Node) (ys : List Node) → drop (length xs + 1) (map masks_of (xs ++ y ∷ ys)) ≡ map masks_of ys
-drop_behind [] y ys = refl
-drop_behind (x ∷ xs) y ys =
-    let e : length (x ∷ xs) + 1 ≡ suc (length xs + 1) = omega arith in
-    rw e (drop_behind xs y ys)
 
 -- ---- one register
 

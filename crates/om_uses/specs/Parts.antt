@@ -1,32 +1,30 @@
--- What is kept of the blocks of a graph.
-use Rattle.std.specs.Prelude.{◌≡◌, ℕ, ◌+◌, List, [], ◌∷◌, ◌++◌, map, get_or, Some}
+-- What is kept of the ops, blocks and loads of a graph.
+use Rattle.std.specs.Prelude.{◌≡◌, ◌<◌, ℕ, ◌+◌, List, [], ◌∷◌, ◌++◌, length, get_or, Option, Some, None}
 use Rattle.om_isa.specs.Registers.{mask_of}
 use Rattle.om_value.specs.declared.value.Place.{Place}
 use Rattle.om_value.specs.declared.value.Target.{Target}
 use Rattle.om_graph.specs.declared.op.OpKind.{OpKind}
 use Rattle.om_graph.specs.declared.op.OpKind.TheVariants.{Lit}
-use Rattle.om_graph.specs.View.{Node, Block, GraphView, Has}
+use Rattle.om_graph.specs.View.{Node, Block, GraphView, Has, first_id}
 use Rattle.om_graph.specs.Numbers.{number_of}
 use Rattle.om_blocks.specs.Effects.{kind_reads, kind_writes, last_reads, last_writes}
-use Rattle.om_uses.specs.declared.scans.OpMasks.{OpMasks}
-use Rattle.om_uses.specs.declared.tables.Spot.{Spot}
+use Rattle.om_uses.specs.declared.tables.OpUses.{OpUses}
+use Rattle.om_uses.specs.declared.tables.BlockUses.{BlockUses}
+use Rattle.om_uses.specs.declared.tables.Load.{Load}
 
--- ---- of a block
+-- ---- of an op
 
-pub record Part : Type 0 where
-  pub ops : List OpMasks
-  -- the targets whose addresses its ops load from slots
-  pub loads : List Target
-  -- of the word that ends it
-  pub reads : ℕ
-  pub writes : ℕ
+-- the op behind another, or that one where there is none
+abbrev pub next_or : ℕ → Option ℕ → ℕ
+next_or id None = id
+next_or id (Some next) = next
 
-abbrev pub nothing : Part
-nothing = record { ops = []; loads = []; reads = 0; writes = 0 }
+-- of an op with the one behind it, in a block of this number
+abbrev pub uses_of : OpKind → ℕ → ℕ → OpUses
+uses_of kind next i =
+    record { reads = mask_of (kind_reads kind); writes = mask_of (kind_writes kind); next = next; block = i }
 
-abbrev pub masks_of : Node → OpMasks
-masks_of n = record { id = n.id; reads = mask_of (kind_reads n.op.kind); writes = mask_of (kind_writes n.op.kind) }
-
+-- the target whose address an op loads from its slot, if it does
 abbrev pub load_of : OpKind → List Target
 load_of (Lit ra rb t) = t ∷ []
 load_of _ = []
@@ -35,40 +33,69 @@ abbrev pub loads_of : List Node → List Target
 loads_of [] = []
 loads_of (n ∷ ns) = load_of n.op.kind ++ loads_of ns
 
-abbrev pub part_of : Block → Part
-part_of b = record {
-  ops = map masks_of b.ops;
-  loads = loads_of b.ops;
+-- ---- of a block
+
+abbrev pub no_block : BlockUses
+no_block = record { reads = 0; writes = 0; start = 0; count = 0 }
+
+-- of a block whose loads stand from a place on
+abbrev pub block_uses : Block → ℕ → BlockUses
+block_uses b start = record {
   reads = mask_of (last_reads b.last);
   writes = mask_of (last_writes b.last);
+  start = start;
+  count = length (loads_of b.ops);
 }
 
--- ---- of all blocks
+-- ---- of all
 
--- the parts by the numbers of blocks, and by those of ops the block and where the op stands in it
+-- ops and blocks by their numbers
 pub record Kept : Type 0 where
-  pub parts : List Part
-  pub spots : List Spot
+  pub ops : List OpUses
+  pub blocks : List BlockUses
+  pub loads : List Load
 
-abbrev pub nowhere : Spot
-nowhere = record { block = 0; at = 0 }
+-- of an op that is not known
+abbrev pub alone : ℕ → OpUses
+alone id = record { reads = 0; writes = 0; next = id; block = 0 }
 
-abbrev pub part_at : Kept → ℕ → Part
-part_at u i = get_or u.parts i nothing
+abbrev pub op_at : Kept → ℕ → OpUses
+op_at u id = get_or u.ops id (alone id)
 
--- ops that stand in a block from a place on have their spots
-abbrev pub AreSpots : List Spot → ℕ → ℕ → List Node → Type 0
-AreSpots spots i k [] = Unit {0}
-AreSpots spots i k (n ∷ ns) = (get_or spots n.id nowhere ≡ record { block = i; at = k }) × AreSpots spots i (k + 1) ns
+abbrev pub block_at : Kept → ℕ → BlockUses
+block_at u i = get_or u.blocks i no_block
+
+-- the ops have numbers below this
+abbrev pub AreWithin : ℕ → List Node → Type 0
+AreWithin m [] = Unit {0}
+AreWithin m (n ∷ ns) = (n.id < m) × AreWithin m ns
+
+-- of each of the last ops of a block its own is kept, and the op behind it
+abbrev pub AreLinked : List OpUses → ℕ → List Node → Type 0
+AreLinked ops i [] = Unit {0}
+AreLinked ops i (n ∷ ns) =
+    (get_or ops n.id (alone n.id) ≡ uses_of n.op.kind (next_or n.id (first_id ns)) i) × AreLinked ops i ns
+
+-- from a place on these targets stand, of a block
+abbrev pub AreLoads : List Load → ℕ → ℕ → List Target → Type 0
+AreLoads loads at i [] = Unit {0}
+AreLoads loads at i (t ∷ ts) =
+    (at < length loads)
+    × ((d : Load) → get_or loads at d ≡ record { target = t; block = i })
+    × AreLoads loads (at + 1) i ts
+
+-- all of a block is kept
+pub record IsKeptOf (u : Kept) (b : Block) : Type 0 where
+  pub within : AreWithin (length u.ops) b.ops
+  pub linked : AreLinked u.ops b.id b.ops
+  pub start : ℕ
+  pub end : block_at u b.id ≡ block_uses b start
+  pub loads : AreLoads u.loads start b.id (loads_of b.ops)
 
 -- what is kept under a block's number is that of the graph's block, or nothing where it has no block of this number
-pub record IsRight (g : GraphView) (i : ℕ) (p : Part) : Type 0 where
-  pub kept : (b : Block) → Has g.blocks b → b.id ≡ i → p ≡ part_of b
-  pub gone : ((b : Block) → Has g.blocks b → b.id ≡ i → ⊥) → p ≡ nothing
-
 pub record IsAt (g : GraphView) (u : Kept) (i : ℕ) : Type 0 where
-  pub part : IsRight g i (part_at u i)
-  pub spots : (b : Block) → Has g.blocks b → b.id ≡ i → AreSpots u.spots i 0 b.ops
+  pub kept : (b : Block) → Has g.blocks b → b.id ≡ i → IsKeptOf u b
+  pub gone : ((b : Block) → Has g.blocks b → b.id ≡ i → ⊥) → block_at u i ≡ no_block
 
 -- the uses of a graph
 pub record IsUsesOf (g : GraphView) (u : Kept) : Type 0 where

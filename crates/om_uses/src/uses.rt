@@ -1,32 +1,34 @@
 //! Uses of results within blocks.
-ghost use Rattle.std.specs.Prelude.{◌≡◌, ◌+◌, ◌-◌, ◌<◌, ◌^◌, ℕ, List, [], length, get_or, min, drop, IfSome, IfOk, OnOk, OnErr, IsOk, Some, ◌∷◌};
-ghost use Rattle.om_isa.specs.Registers.{mask_of};
-ghost use Rattle.om_uses.specs.Scans.{first_reader as reader_first, is_unwritten as none_writes};
+ghost use Rattle.std.specs.Prelude.{◌≡◌, ◌-◌, ◌<◌, ◌^◌, if◌then◌else◌, List, [], get_or, min, take, drop, IfOk, OnOk, OnErr, IsOk, IsTrue, Some};
 ghost use Rattle.om_graph.specs.Held.{IsGraph};
 ghost use Rattle.om_graph.specs.Numbers.{AreNumbered};
-ghost use Rattle.om_graph.specs.View.{GraphView, cleared};
-ghost use Rattle.om_uses.specs.Parts.{IsUsesOf, IsNearly, nowhere, part_at};
-ghost use Rattle.om_uses.specs.Readers.{TellsNext, TellsReadLast, TellsAtEnd, count_in, loads_in};
-ghost use Rattle.om_uses.specs.Installed.{HasRoom, HaveRoom, IsRoomier, with_part, installed, AreRight, AreCovered, loads_kept};
-ghost use Rattle.om_uses.specs.Results.{IsFreshOf, IsAddedFor, no_op, writes_of_id, reader_at, reader_for, read_last_for, at_end_for};
+ghost use Rattle.om_graph.specs.View.{Node, Block as AnyBlock, GraphView, is_live_block, block_of, cleared};
+ghost use Rattle.om_uses.specs.Parts.{IsUsesOf, IsNearly, no_block, op_at};
+ghost use Rattle.om_uses.specs.Readers.{TellsNext, TellsReadLast, TellsAtEnd, loads_in, readers, writes, is_kept, first_of};
+ghost use Rattle.om_uses.specs.Installed.{HasRoom, HasRoomFor, HaveRoom, IsRoomier, with_block, with_fresh, installed, AreCovered, count_loads, loads_kept};
+ghost use Rattle.om_uses.specs.Results.{IsBehind, IsFreshOf, IsAddedFor};
 
-use crate::blocks::{BlockUses, no_uses, read_block};
-use crate::scans::{OpMasks, first_reader, has, is_unwritten, lowest};
-use crate::tables::{Spot, admit_ops, extend_parts, note_spots};
-use om_graph::{Graph, OpId};
+use crate::blocks::{admit_ops, note_block};
+use crate::scans::{has, lowest};
+use crate::tables::{BlockUses, Load, OpUses, admit_loads, extend_blocks, no_uses};
+use om_blocks::{last_reads, last_writes};
+use om_graph::{BlockId, Graph, OpId};
 use om_io::NoMemory;
 use om_value::{Place, Target};
 use std::alloc::Global;
 use std::marker::Model;
 
-/// The ops of each block of a graph with the registers that they read and write, and the targets of its loads.
+/// The ops of each block of a graph with the registers that they read and write, and the targets of its loads. It takes 16
+/// bytes an op, 16 a block and 32 a load, by the numbers of ops and blocks.
 #[derive(Drop)]
 pub struct Uses {
     alloc: Global,
-    // By the numbers of blocks.
-    parts: Vec<BlockUses>,
     // By the numbers of ops.
-    spots: Vec<Spot>,
+    ops: Vec<OpUses>,
+    // By the numbers of blocks.
+    blocks: Vec<BlockUses>,
+    // Those of each block behind one another.
+    loads: Vec<Load>,
 }
 
 impl Model for Uses {
@@ -34,287 +36,241 @@ impl Model for Uses {
 
     ghost Value = { Kept };
 
-    ghost view = { λ u. record { parts = u.parts.items; spots = u.spots.items } };
+    ghost view = { λ u. record { ops = u.ops.items; blocks = u.blocks.items; loads = u.loads.items } };
 }
 
-// The one register that an op writes, and where the op stands.
+// A touched block, for which there is room.
 #[derive(Clone, Copy)]
-struct Written {
-    spot: Spot,
-    register: u32,
+pub(crate) enum Fresh {
+    // A kept one, and where its loads go.
+    Stays { block: BlockId, start: u32 },
+    // The number of a dropped one.
+    Gone { number: usize },
 }
 
-// The new part of the block of a number.
-#[derive(Drop)]
-pub(crate) struct FreshPart {
-    number: usize,
-    part: BlockUses,
-}
-
-impl Model for FreshPart {
-    ghost use Rattle.om_uses.specs.Installed.{Fresh};
-
-    ghost Value = { Fresh };
-
-    ghost view = { λ f. record { number = f.number; part = f.part } };
-}
-
-// How often a target stands in a list.
-fn count_of(loads: &[Target], t: Target) -> u64
-    ensures { result ≡ min (count_in t loads.now) (2 ^ 64 - 1) }
+// How often a target stands among loads.
+fn count_of(loads: &[Load], t: Target) -> u64
+    ensures { result ≡ min (count_loads t loads.now) (2 ^ 64 - 1) }
 {
     let mut count: u64 = 0;
     for load in loads {
-        if *load == t {
+        if load.target == t {
             count = count.saturating_add(1);
         }
     }
     count
 }
 
-// How often a target stands in the parts of blocks.
-fn count_parts(parts: &[BlockUses], t: Target) -> u64
-    ensures { result ≡ min (loads_kept t parts.now) (2 ^ 64 - 1) }
+// The loads of a block.
+fn loads_at<'a>(loads: &'a [Load], block: &BlockUses) -> &'a [Load]
+    ensures { result.now ≡ take block.now.count (drop block.now.start loads.now) }
+{
+    let behind = &loads[(block.start as usize).min(loads.len())..];
+    &behind[..(block.count as usize).min(behind.len())]
+}
+
+// How often a target stands among the loads of blocks.
+fn count_blocks(loads: &[Load], blocks: &[BlockUses], t: Target) -> u64
+    ensures { result ≡ min (loads_kept t loads.now blocks.now) (2 ^ 64 - 1) }
 {
     let mut count: u64 = 0;
-    for part in parts {
-        count = count.saturating_add(count_of(part.loads.as_slice(), t));
+    for block in blocks {
+        count = count.saturating_add(count_of(loads_at(loads, block), t));
     }
     count
 }
 
-// The new part of the touched block of a label, if the graph has such a label.
-fn fresh_part(alloc: Global, g: &Graph, label: Place) -> Result<Option<FreshPart>, NoMemory>
-    requires graph { IsGraph g.now }
-    requires numbers { AreNumbered g.now }
-    ensures { IfOk result (λ f. IsFreshOf g.now label f) }
-{
-    let Some(number) = g.number(label) else {
-        return Ok(None);
-    };
-    match g.block(label) {
-        Some(b) => {
-            let part = read_block(alloc, g, b)?;
-            Ok(Some(FreshPart { number, part }))
-        }
-        None => {
-            let part = no_uses(alloc);
-            Ok(Some(FreshPart { number, part }))
-        }
-    }
-}
-
-// Adds that part to others.
-fn add_fresh(
-    alloc: Global,
-    fresh: &mut Vec<FreshPart>,
-    g: &Graph,
-    label: Place,
-) -> Result<(), NoMemory>
-    requires graph { IsGraph g.now }
-    requires numbers { AreNumbered g.now }
-    ensures { OnOk result (IsAddedFor g.now label fresh.old.items fresh.new.items) }
-{
-    match fresh_part(alloc, g, label)? {
-        Some(part) => {
-            fresh.push(part)?;
-            Ok(())
-        }
-        None => Ok(()),
-    }
-}
-
-// The new parts of all touched blocks.
-fn fresh_parts(alloc: Global, g: &Graph) -> Result<Vec<FreshPart>, NoMemory>
-    requires graph { IsGraph g.now }
-    requires numbers { AreNumbered g.now }
-    ensures right { IfOk result (λ fs. AreRight g.now fs.items) }
-    ensures covered { IfOk result (λ fs. AreCovered g.now g.now.touched fs.items) }
-    ensures none { g.now.touched ≡ [] → IfOk result (λ fs. fs.items ≡ []) }
-    ensures untouched { g.now.touched ≡ [] → IsOk result }
-{
-    let mut fresh = Vec::new(alloc);
-    let mut next = g.next_touched(None);
-    while let Some(label) = next {
-        add_fresh(alloc, &mut fresh, g, label)?;
-        next = g.next_touched(Some(label));
-    }
-    Ok(fresh)
-}
-
 impl Uses {
-    // Where an op stands.
-    fn spot(&self, o: OpId) -> Spot
-        ensures { result ≡ get_or self.now.spots o nowhere }
+    // What is kept of an op; of one that is not known, that it stands alone.
+    fn op(&self, o: OpId) -> OpUses
+        ensures { result ≡ op_at self.now o }
     {
         let number = o.number();
-        if number < self.spots.len() {
-            self.spots[number]
+        if number < self.ops.len() {
+            self.ops[number]
         } else {
-            Spot { block: 0, at: 0 }
+            OpUses {
+                reads: 0,
+                writes: 0,
+                next: o,
+                block: 0,
+            }
         }
     }
 
-    // The registers that an op of a block writes; none where there is no such op.
-    fn writes_at(&self, block: u32, at: u32) -> u32
-        ensures { result ≡ (get_or (part_at self.now block).ops at no_op).writes }
+    // What is kept of a block; of one that is not known, nothing.
+    fn block(&self, number: u32) -> BlockUses
+        ensures { result ≡ get_or self.now.blocks number no_block }
     {
-        if block as usize >= self.parts.len() {
-            return 0;
-        }
-        let part = &self.parts[block as usize];
-        if at as usize >= part.ops.len() {
-            return 0;
-        }
-        part.ops[at as usize].writes
-    }
-
-    // The register that an op writes, where it writes one.
-    fn written(&self, def: OpId) -> Option<Written>
-        ensures range { IfSome result (λ w. w.register < 31) }
-        ensures written { (r : ℕ) → r < 31 → writes_of_id self.now def ≡ mask_of (r ∷ []) → result ≡ Some (record { spot = get_or self.now.spots def nowhere; register = r }) }
-    {
-        let spot = self.spot(def);
-        match lowest(self.writes_at(spot.block, spot.at)) {
-            Some(register) => Some(Written { spot, register }),
-            None => None,
+        let number = number as usize;
+        if number < self.blocks.len() {
+            self.blocks[number]
+        } else {
+            no_uses()
         }
     }
 
-    // The ops of a block behind a place.
-    fn behind(&self, block: u32, at: u32) -> &[OpMasks]
-        requires { block < length self.now.parts }
-        ensures { result.now ≡ drop (at + 1) (part_at self.now block).ops }
-    {
-        let part = &self.parts[block as usize];
-        let from = (at as usize + 1).min(part.ops.len());
-        &part.ops[from..]
-    }
-
-    // The first reader of a register behind a place of a block.
-    fn reader_behind(&self, block: u32, at: u32, r: u32) -> Option<OpId>
+    // The first op behind one that reads a register, if none between them writes it.
+    fn reader_behind(&self, o: OpId, r: u32) -> Option<OpId>
         requires { r < 31 }
-        ensures { result ≡ reader_first r (drop (at + 1) (part_at self.now block).ops) }
+        ensures { (n : Node) (behind : List Node) → IsBehind self.now o n behind
+            → result ≡ first_of (readers r behind) }
     {
-        if block as usize >= self.parts.len() {
+        let mut at = o;
+        for _ in 0..self.ops.len() {
+            let next = self.op(at).next;
+            if next == at {
+                return None;
+            }
+            let op = self.op(next);
+            if has(op.reads, r) {
+                return Some(next);
+            }
+            if has(op.writes, r) {
+                return None;
+            }
+            at = next;
+        }
+        None
+    }
+
+    // Whether no op behind one writes a register.
+    fn is_kept_behind(&self, o: OpId, r: u32) -> bool
+        requires { r < 31 }
+        ensures { (n : Node) (behind : List Node) → IsBehind self.now o n behind → result ≡ is_kept r behind }
+    {
+        let mut at = o;
+        for _ in 0..self.ops.len() {
+            let next = self.op(at).next;
+            if next == at {
+                return true;
+            }
+            if has(self.op(next).writes, r) {
+                return false;
+            }
+            at = next;
+        }
+        true
+    }
+
+    // The reader of a register behind another reader.
+    fn reader_after(&self, o: OpId, r: u32) -> Option<OpId>
+        requires { r < 31 }
+        ensures { (n : Node) (behind : List Node) → IsBehind self.now o n behind
+            → result ≡ first_of (if writes r n then [] else readers r behind) }
+    {
+        if has(self.op(o).writes, r) {
             return None;
         }
-        first_reader(self.behind(block, at), r)
+        self.reader_behind(o, r)
     }
 
-    // Whether a register is not written behind a place of a block, but by its end.
-    fn is_kept_behind(&self, block: u32, at: u32, r: u32) -> bool
-        requires { r < 31 }
-        ensures { result ≡ none_writes r (drop (at + 1) (part_at self.now block).ops) }
-    {
-        if block as usize >= self.parts.len() {
-            return true;
-        }
-        is_unwritten(self.behind(block, at), r)
-    }
-
-    // The reader of a register behind another reader, which stands at a place.
-    fn reader_after(&self, block: u32, at: u32, r: u32) -> Option<OpId>
-        requires { r < 31 }
-        ensures { result ≡ reader_at self.now r block at }
-    {
-        if has(self.writes_at(block, at), r) {
-            return None;
-        }
-        self.reader_behind(block, at, r)
-    }
-
-    // The next reader behind another, or behind what wrote the register.
-    fn reader_from(&self, w: Written, after: Option<OpId>) -> Option<OpId>
-        requires { w.register < 31 }
-        ensures { result ≡ reader_for self.now w after }
-    {
-        match after {
-            Some(after) => self.reader_after(w.spot.block, self.spot(after).at, w.register),
-            None => self.reader_behind(w.spot.block, w.spot.at, w.register),
-        }
-    }
-
-    // The registers that the end of a block reads.
-    fn last_reads_at(&self, block: u32) -> u32
-        ensures { result ≡ (part_at self.now block).reads }
-    {
-        if block as usize >= self.parts.len() {
-            return 0;
-        }
-        self.parts[block as usize].reads
-    }
-
-    // The registers that the end of a block writes.
-    fn last_writes_at(&self, block: u32) -> u32
-        ensures { result ≡ (part_at self.now block).writes }
-    {
-        if block as usize >= self.parts.len() {
-            return 0;
-        }
-        self.parts[block as usize].writes
-    }
-
-    fn reads_last(&self, w: Written) -> bool
-        requires { w.register < 31 }
-        ensures { result ≡ read_last_for self.now w }
-    {
-        self.is_kept_behind(w.spot.block, w.spot.at, w.register)
-            && has(self.last_reads_at(w.spot.block), w.register)
-    }
-
-    fn stays_to_end(&self, w: Written) -> bool
-        requires { w.register < 31 }
-        ensures { result ≡ at_end_for self.now w }
-    {
-        self.is_kept_behind(w.spot.block, w.spot.at, w.register)
-            && !has(self.last_writes_at(w.spot.block), w.register)
-    }
-
-    // Makes room for the part of a block.
-    #[tactic(auto, using(crate::proofs::Fresh::roomier_itself, crate::proofs::Fresh::longer_itself))]
-    fn admit(&mut self, number: usize, part: &BlockUses) -> Result<(), NoMemory>
+    // Makes room for a kept block, and tells where its loads go.
+    fn admit(&mut self, g: &Graph, b: BlockId) -> Result<u32, NoMemory>
+        requires graph { IsGraph g.now }
+        requires live { IsTrue (is_live_block g.now b) }
         ensures same { IsRoomier self.old self.new }
-        ensures room { OnOk result (HasRoom self.new number part.now) }
+        ensures room { IfOk result (λ start. HasRoom g.now self.new b start) }
     {
-        if number >= u32::MAX as usize || part.ops.len() >= u32::MAX as usize {
-            return Err(NoMemory);
-        }
-        extend_parts(self.alloc, &mut self.parts, number + 1)?;
-        admit_ops(&mut self.spots, part.ops.as_slice())?;
-        Ok(())
+        extend_blocks(&mut self.blocks, b.number())?;
+        let count = admit_ops(&mut self.ops, g, b)?;
+        let block = b.number() as u32;
+        let start = self.block(block).start;
+        let start = admit_loads(&mut self.loads, start, count, block)?;
+        Ok(start)
     }
 
-    // Makes room for parts of blocks.
-    #[tactic(auto, using(crate::proofs::Fresh::roomier_itself))]
-    fn admit_all(&mut self, fresh: &[FreshPart]) -> Result<(), NoMemory>
+    // Makes room for a touched label's block, if the graph was made with one there.
+    fn fresh_at(&mut self, g: &Graph, label: Place) -> Result<Option<Fresh>, NoMemory>
+        requires graph { IsGraph g.now }
+        requires numbers { AreNumbered g.now }
         ensures same { IsRoomier self.old self.new }
-        ensures room { OnOk result (HaveRoom self.new fresh.now) }
-        ensures none { fresh.now ≡ [] → IsOk result }
+        ensures fresh { IfOk result (λ f. IsFreshOf g.now self.new label f) }
+    {
+        if let Some(block) = g.block(label) {
+            let start = self.admit(g, block)?;
+            return Ok(Some(Fresh::Stays { block, start }));
+        }
+        match g.number(label) {
+            Some(number) => {
+                extend_blocks(&mut self.blocks, number)?;
+                Ok(Some(Fresh::Gone { number }))
+            }
+            None => Ok(None),
+        }
+    }
+
+    // Adds that block to others.
+    fn add_fresh(&mut self, g: &Graph, label: Place, fresh: &mut Vec<Fresh>) -> Result<(), NoMemory>
+        requires graph { IsGraph g.now }
+        requires numbers { AreNumbered g.now }
+        ensures same { IsRoomier self.old self.new }
+        ensures added { OnOk result (IsAddedFor g.now self.new label fresh.old.items fresh.new.items) }
+    {
+        match self.fresh_at(g, label)? {
+            Some(block) => {
+                fresh.push(block)?;
+                Ok(())
+            }
+            None => Ok(()),
+        }
+    }
+
+    // Makes room for all touched blocks.
+    fn admit_touched(&mut self, g: &Graph) -> Result<Vec<Fresh>, NoMemory>
+        requires graph { IsGraph g.now }
+        requires numbers { AreNumbered g.now }
+        ensures same { IsRoomier self.old self.new }
+        ensures room { IfOk result (λ fs. HaveRoom g.now self.new fs.items) }
+        ensures covered { IfOk result (λ fs. AreCovered g.now g.now.touched fs.items) }
+        ensures untouched { g.now.touched ≡ [] → IsOk result }
+    {
+        let mut fresh = Vec::new(self.alloc);
+        let mut next = g.next_touched(None);
+        while let Some(label) = next {
+            self.add_fresh(g, label, &mut fresh)?;
+            next = g.next_touched(Some(label));
+        }
+        Ok(fresh)
+    }
+
+    // Notes a kept block.
+    fn note(&mut self, g: &Graph, b: BlockId, start: u32)
+        requires graph { IsGraph g.now }
+        requires live { IsTrue (is_live_block g.now b) }
+        requires room { HasRoom g.now self.old b start }
+        ensures { (x : AnyBlock) → block_of g.now b ≡ Some x → self.new ≡ with_block self.old b x start }
+    {
+        let end = note_block(&mut self.ops, &mut self.loads, g, b, start);
+        let last = g.last(b);
+        self.blocks[b.number()] = BlockUses {
+            reads: last_reads(&last),
+            writes: last_writes(&last),
+            start,
+            count: (end - start as usize) as u32,
+        };
+    }
+
+    // Notes a touched block.
+    fn install(&mut self, g: &Graph, fresh: Fresh)
+        requires graph { IsGraph g.now }
+        requires room { HasRoomFor g.now self.old fresh }
+        ensures { self.new ≡ with_fresh g.now fresh self.old }
+    {
+        match fresh {
+            Fresh::Stays { block, start } => self.note(g, block, start),
+            Fresh::Gone { number } => self.blocks[number] = no_uses(),
+        }
+    }
+
+    // Notes touched blocks.
+    fn install_all(&mut self, g: &Graph, fresh: Vec<Fresh>)
+        requires graph { IsGraph g.now }
+        requires room { HaveRoom g.now self.old fresh.items }
+        ensures { self.new ≡ installed g.now fresh.items self.old }
     {
         for f in fresh {
-            self.admit(f.number, &f.part)?;
-        }
-        Ok(())
-    }
-
-    // Puts the part of a block in the place of the one before.
-    fn install(&mut self, number: usize, part: BlockUses)
-        requires { HasRoom self.old number part }
-        ensures { self.new ≡ with_part self.old number part }
-    {
-        note_spots(&mut self.spots, number as u32, part.ops.as_slice());
-        self.parts[number] = part;
-    }
-
-    // Puts parts of blocks in the places of those before.
-    fn install_all(&mut self, fresh: Vec<FreshPart>)
-        requires { HaveRoom self.old fresh.items }
-        ensures { self.new ≡ installed fresh.items self.old }
-    {
-        for f in fresh {
-            let FreshPart { number, part } = f;
-            self.install(number, part);
+            self.install(g, f);
         }
     }
 
@@ -325,15 +281,14 @@ impl Uses {
         g.is_graph();
         let mut uses = Uses {
             alloc,
-            parts: Vec::new(alloc),
-            spots: Vec::new(alloc),
+            ops: Vec::new(alloc),
+            blocks: Vec::new(alloc),
+            loads: Vec::new(alloc),
         };
         let mut next = g.first_block();
         while let Some(b) = next {
-            let number = b.number();
-            let part = read_block(alloc, g, b)?;
-            uses.admit(number, &part)?;
-            uses.install(number, part);
+            let start = uses.admit(g, b)?;
+            uses.note(g, b, start);
             next = g.next_block(b);
         }
         Ok(uses)
@@ -353,9 +308,8 @@ impl Uses {
     {
         g.is_graph();
         g.is_numbered();
-        let fresh = fresh_parts(self.alloc, g)?;
-        self.admit_all(fresh.as_slice())?;
-        self.install_all(fresh);
+        let fresh = self.admit_touched(g)?;
+        self.install_all(g, fresh);
         g.clear_touched();
         Ok(())
     }
@@ -366,9 +320,12 @@ impl Uses {
     pub fn next_reader(&self, def: OpId, after: Option<OpId>) -> Option<OpId>
         ensures { TellsNext self.now def after result }
     {
-        match self.written(def) {
-            Some(w) => self.reader_from(w, after),
-            None => None,
+        let Some(r) = lowest(self.op(def).writes) else {
+            return None;
+        };
+        match after {
+            Some(reader) => self.reader_after(reader, r),
+            None => self.reader_behind(def, r),
         }
     }
 
@@ -376,8 +333,9 @@ impl Uses {
     pub fn read_by_last(&self, def: OpId) -> bool
         ensures { TellsReadLast self.now def result }
     {
-        match self.written(def) {
-            Some(w) => self.reads_last(w),
+        let op = self.op(def);
+        match lowest(op.writes) {
+            Some(r) => self.is_kept_behind(def, r) && has(self.block(op.block).reads, r),
             None => false,
         }
     }
@@ -386,8 +344,9 @@ impl Uses {
     pub fn reaches_end(&self, def: OpId) -> bool
         ensures { TellsAtEnd self.now def result }
     {
-        match self.written(def) {
-            Some(w) => self.stays_to_end(w),
+        let op = self.op(def);
+        match lowest(op.writes) {
+            Some(r) => self.is_kept_behind(def, r) && !has(self.block(op.block).writes, r),
             None => false,
         }
     }
@@ -397,6 +356,6 @@ impl Uses {
     pub fn count(&self, t: Target) -> u64
         ensures { (g : GraphView) → IsGraph g → IsUsesOf g self.now → result ≡ min (loads_in t g.blocks) (2 ^ 64 - 1) }
     {
-        count_parts(self.parts.as_slice(), t)
+        count_blocks(self.loads.as_slice(), self.blocks.as_slice(), t)
     }
 }
