@@ -3,8 +3,8 @@
 Words are encoded by the formats of the Alpha Architecture Handbook, and files by the headers of the ECOFF object format; nothing
 here is taken from the program. The text stands at address 0, each further section at the next multiple of 16 in the order of their
 numbers; `lit rN,X` loads from a slot of `.lita`, where slots stand in the order of first use, by r29, and `lit rN,X,rB` by another
-register. `pair rN` sets the global pointer from the object's first word (r27) or from its own place (r26); `high rN` and `low` are
-its two words apart. The global pointer is `.lita` plus 32768, or 32768 where there is none.
+register. `pair rN` sets the global pointer from the object's first word (r27) or from its own place (r26), `pair rN,NAME` from a
+label; `high rN` and `low` are its two words apart. The global pointer is `.lita` plus 32768, or 32768 where there is none.
 """
 import re
 import struct
@@ -86,8 +86,9 @@ class Object:
             self.add("high" + line[4:], labels)
             self.add("low", labels)
         elif line.startswith("high "):
-            base = reg(line[5:].strip())
-            self.pairs.append((place, base, 0 if base == 27 else place))
+            base, *at = [it.strip() for it in line[5:].split(",")]
+            origin = labels[at[0]] if at else 0 if base == "r27" else place
+            self.pairs.append((place, reg(base), origin))
             self.words.append(0)
         elif line == "low":
             self.pairs[-1] += (place - self.pairs[-1][0],)

@@ -3,13 +3,14 @@
 
 With `--check` it writes nothing, and says which files in ../data are not as it would write them, with status 1 if any is.
 Each object and image is written here in assembly, with its sections, symbols and relocations; assembly.py says how, and
-rewritten.py has the objects of which a link at the default level makes something else.
+rewritten.py has the objects of which a link at the default level makes something else, generated.py a large one.
 """
 import os
 import struct
 import sys
 
 from assembly import COMMON, DATA, DATA_AT, GPREL32, REFQUAD, TEXT, TEXT_AT, UNDEFINED, Object, ends
+from generated import GENERATED
 from rewritten import OBJECTS
 
 HEAP = "lda r0,17(r31)\nlda r16,0(r31)\ncallsys\nbis r31,r0,r9\n"
@@ -163,7 +164,7 @@ IMAGES = {
 
 def files():
     """The files of ../data by their names."""
-    found = {f"{name.lower()}.o": it.bytes() for name, it in {**FILES, **OBJECTS}.items()}
+    found = {f"{name.lower()}.o": it.bytes() for name, it in {**FILES, **OBJECTS, **GENERATED}.items()}
     for name, source in IMAGES.items():
         found[f"{name.lower()}.p"] = image(Object(source).words)
     return found
